@@ -1,0 +1,4 @@
+pub mod Apart
+pub mod WellFormedLemmas
+pub mod Indexes
+pub mod Sections
