@@ -1,0 +1,26 @@
+use Rattle.std.proofs.Common.{◌≡◌, ℕ, ◌+◌, ◌-◌, ◌*◌, ◌^◌, ◌<◌, ◌≤◌, List, [], ◌∷◌, Bool, true, false, Option, Some, None, sum_by, arith, refl}
+use Rattle.std.specs.Prelude.{is_some}
+use Rattle.std.proofs.Math.Pow.{pow_mono}
+use Rattle.event_words.specs.declared.shape.Shape.{Shape}
+use Rattle.event_words.specs.declared.register.Field.{Field}
+use Rattle.event_words.specs.declared.register.Rule.{Rule}
+use Rattle.event_words.specs.declared.register.Rule.TheVariants.{ReadOnly, ReadWrite, SetOnly, ClearOnly}
+use Rattle.event_words.specs.Registers.{field}
+use Rattle.event_words.specs.Guards.{field_bits}
+use Rattle.event_words.specs.Valid.{IsValidShape}
+use Rattle.register_fields.specs.Tables.{IsField, IsTable}
+
+-- the fields of the first configuration register lie apart
+pub IsTable_hwcfg0 : (domains mdcfg srcmd sps transl k : ℕ) (rule : Rule) → domains ≤ 31 → mdcfg ≤ 2 → srcmd ≤ 2 → sps ≤ 1 → transl ≤ 1 → k ≤ 127
+    → IsTable (field 0 1 SetOnly 0 ∷ field 1 6 ReadOnly domains ∷ field 7 2 ReadOnly mdcfg ∷ field 9 2 ReadOnly srcmd ∷ field 11 1 ReadOnly sps ∷ field 12 1 ReadOnly transl ∷ field 13 1 ClearOnly 1 ∷ field 17 7 rule k ∷ [])
+IsTable_hwcfg0 domains mdcfg srcmd sps transl k rule d m s p t kk = record {
+  each = (record { inside = omega arith; reset = omega arith }, (record { inside = omega arith; reset = omega arith }, (record { inside = omega arith; reset = omega arith }, (record { inside = omega arith; reset = omega arith }, (record { inside = omega arith; reset = omega arith }, (record { inside = omega arith; reset = omega arith }, (record { inside = omega arith; reset = omega arith }, (record { inside = omega arith; reset = omega arith }, tt))))))));
+  apart = omega arith;
+}
+
+-- so does one field of few bits
+pub IsTable_one : (width : ℕ) (rule : Rule) → width ≤ 32 → IsTable (field 0 width rule 0 ∷ [])
+IsTable_one width rule h =
+    let p : 2 ^ width ≤ 2 ^ 32 = pow_mono {i = width} {j = 32} h in
+    let q : 2 ^ 0 ≤ 2 ^ width = pow_mono {i = 0} {j = width} (omega arith) in
+    record { each = (record { inside = omega arith; reset = omega arith }, tt); apart = omega arith }

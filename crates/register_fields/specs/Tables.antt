@@ -1,0 +1,25 @@
+use Rattle.std.specs.Prelude.{ℕ, ◌+◌, ◌-◌, ◌*◌, ◌^◌, ◌<◌, ◌≤◌, ◌≡◌, List, length, sum_by}
+use Rattle.std.specs.List.{AllByRecursion}
+use Rattle.event_words.specs.declared.shape.Shape.{Shape}
+use Rattle.event_words.specs.declared.register.Field.{Field}
+use Rattle.event_words.specs.Registers.{Registers, ruled_field, reset_field, index_count}
+use Rattle.event_words.specs.Guards.{field_bits, read_only_bits}
+use Rattle.event_words.specs.Valid.{IsValidShape}
+use Rattle.register_fields.specs.declared.fields.Term.{Term}
+use Rattle.register_fields.specs.declared.fields.Term.TheVariants.{Ruled, Reset, Whole, ReadOnly}
+
+-- what a field adds to a word
+abbrev pub term_of : Term → Field → ℕ
+term_of (Ruled old new) = ruled_field old new
+term_of Reset = reset_field
+term_of Whole = field_bits
+term_of ReadOnly = read_only_bits
+
+pub record IsField (f : Field) : Type 0 where
+  pub inside : f.low + f.width ≤ 32
+  pub reset : f.reset < 2 ^ f.width
+
+-- The fields lie in a word and are apart.
+pub record IsTable (fields : List Field) : Type 0 where
+  pub each : AllByRecursion IsField fields
+  pub apart : sum_by field_bits fields < 2 ^ 32

@@ -1,0 +1,234 @@
+// The fields of each register, in one table: their lowest bits, widths, rules and reset values.
+ghost use Rattle.std.specs.Prelude.{◌≡◌, ℕ, ◌+◌, ◌*◌, ◌^◌, ◌<◌, ◌≤◌, IsTrue, sum_by};
+ghost use Rattle.event_words.specs.Valid.{IsValidShape};
+ghost use Rattle.event_words.specs.Registers.{has_register, fields_of, ruled, bits_of};
+ghost use Rattle.event_words.specs.Guards.{field_bits, read_only_bits, whole};
+ghost use Rattle.register_fields.specs.Tables.{IsTable, IsField, term_of};
+
+use event_words::{Field, Register, Rule, Shape};
+
+/// What is added up over the fields of a register.
+#[derive(Clone, Copy)]
+pub enum Term {
+    Ruled(u32, u32),
+    Reset,
+    Whole,
+    ReadOnly,
+}
+
+fn bits_of(low: u8, width: u8, word: u32) -> u32
+    requires { low + width ≤ 32 }
+    ensures value { result ≡ bits_of low width word }
+    ensures small { result < 2 ^ width }
+{
+    ((word as u64 >> low) % (1 << width)) as u32
+}
+
+fn ruled(rule: Rule, old: u32, new: u32) -> u32
+    ensures value { result ≡ ruled rule old new }
+    ensures small { (width : ℕ) → old < 2 ^ width → new < 2 ^ width → result < 2 ^ width }
+{
+    match rule {
+        Rule::ReadOnly | Rule::Captured => old,
+        Rule::ReadWrite => new,
+        Rule::SetOnly => old | new,
+        Rule::ClearOnly | Rule::WriteOneClear => old - (old & new),
+        Rule::GrowOnly => old.max(new),
+    }
+}
+
+/// What a field adds, before it is moved to its place.
+fn number_of(term: Term, field: &Field) -> u64
+    requires { IsField field.now }
+    ensures value { result * 2 ^ field.now.low ≡ term_of term field.now }
+    ensures small { result < 2 ^ field.now.width }
+{
+    let all = (1u64 << field.width) - 1;
+    match term {
+        Term::Ruled(old, new) => {
+            let old = bits_of(field.low, field.width, old);
+            let new = bits_of(field.low, field.width, new);
+            ruled(field.rule, old, new) as u64
+        }
+        Term::Reset => field.reset as u64,
+        Term::Whole => all,
+        Term::ReadOnly => match field.rule {
+            Rule::ReadOnly => all,
+            _ => 0,
+        },
+    }
+}
+
+/// What a field adds.
+fn term_of(term: Term, field: &Field) -> u32
+    requires { IsField field.now }
+    ensures value { result ≡ term_of term field.now }
+    ensures bound { result ≤ field_bits field.now }
+{
+    (number_of(term, field) << field.low) as u32
+}
+
+/// The sum over a register's fields.
+fn sum_of(fields: &[Field], term: Term) -> u32
+    requires { IsTable fields.now }
+    ensures { result ≡ sum_by (term_of term) fields.now }
+{
+    let mut sum = 0;
+    for field in fields {
+        sum += term_of(term, field);
+    }
+    sum
+}
+
+const fn field(low: u8, width: u8, rule: Rule, reset: u32) -> Field
+    ensures { result ≡ record { low = low; width = width; rule = rule; reset = reset } }
+{
+    Field {
+        low,
+        width,
+        rule,
+        reset,
+    }
+}
+
+/// The sum over the fields of a register of this shape.
+pub fn total(shape: &Shape, register: Register, term: Term) -> u32
+    requires shape { IsValidShape shape.now }
+    requires there { IsTrue (has_register shape.now register) }
+    ensures { result ≡ sum_by (term_of term) (fields_of shape.now register) }
+{
+    let domains = shape.domains;
+    match register {
+        Register::Hwcfg0 => total_hwcfg0(shape, term),
+        Register::Hwcfg1 => sum_of(
+            &[
+                field(0, 16, Rule::ReadOnly, shape.rrids as u32),
+                field(16, 16, Rule::ReadOnly, shape.entries as u32),
+            ],
+            term,
+        ),
+        Register::Hwcfg2 => sum_of(
+            &[
+                field(0, 16, Rule::ReadWrite, 0),
+                field(16, 16, Rule::ReadOnly, shape.transl.unwrap_or(0) as u32),
+            ],
+            term,
+        ),
+        Register::Mdstall | Register::SrcmdR(_) | Register::SrcmdW(_) => {
+            sum_of(&[field(1, domains, Rule::ReadWrite, 0)], term)
+        }
+        Register::Rridscp | Register::Mdcfg(_) => {
+            sum_of(&[field(0, 16, Rule::ReadWrite, 0)], term)
+        }
+        Register::Mdlck => sum_of(
+            &[
+                field(0, 1, Rule::SetOnly, 0),
+                field(1, domains, Rule::SetOnly, 0),
+            ],
+            term,
+        ),
+        Register::Mdcfglck => sum_of(
+            &[
+                field(0, 1, Rule::SetOnly, 0),
+                field(1, 7, Rule::GrowOnly, 0),
+            ],
+            term,
+        ),
+        Register::Entrylck => sum_of(
+            &[
+                field(0, 1, Rule::SetOnly, 0),
+                field(1, 16, Rule::GrowOnly, 0),
+            ],
+            term,
+        ),
+        Register::ErrCfg => sum_of(
+            &[
+                field(0, 1, Rule::SetOnly, 0),
+                field(1, 1, Rule::ReadWrite, 0),
+                field(2, 1, Rule::ReadWrite, 0),
+                field(3, 1, Rule::ReadWrite, 0),
+            ],
+            term,
+        ),
+        Register::ErrInfo => sum_of(
+            &[
+                field(0, 1, Rule::WriteOneClear, 0),
+                field(1, 2, Rule::Captured, 0),
+                field(4, 4, Rule::Captured, 0),
+            ],
+            term,
+        ),
+        Register::ErrReqaddr => sum_of(&[field(0, 32, Rule::Captured, 0)], term),
+        Register::ErrReqaddrh => sum_of(&[field(0, 6, Rule::Captured, 0)], term),
+        Register::ErrReqid => sum_of(
+            &[
+                field(0, 16, Rule::Captured, 0),
+                field(16, 16, Rule::Captured, 0),
+            ],
+            term,
+        ),
+        Register::SrcmdEn(_) => sum_of(
+            &[
+                field(0, 1, Rule::SetOnly, 0),
+                field(1, domains, Rule::ReadWrite, 0),
+            ],
+            term,
+        ),
+        Register::SrcmdPerm(_) => { sum_of(&[field(0, 2 * shape.rrids, Rule::ReadWrite, 0)], term) }
+        Register::EntryAddr(_) => sum_of(&[field(0, 32, Rule::ReadWrite, 0)], term),
+        Register::EntryAddrh(_) => sum_of(&[field(0, 6, Rule::ReadWrite, 0)], term),
+        Register::EntryCfg(_) => sum_of(
+            &[
+                field(0, 1, Rule::ReadWrite, 0),
+                field(1, 1, Rule::ReadWrite, 0),
+                field(2, 1, Rule::ReadWrite, 0),
+                field(3, 2, Rule::ReadWrite, 0),
+                field(5, 3, Rule::ReadWrite, 0),
+                field(8, 3, Rule::ReadWrite, 0),
+            ],
+            term,
+        ),
+    }
+}
+
+fn total_hwcfg0(shape: &Shape, term: Term) -> u32
+    requires { IsValidShape shape.now }
+    ensures { result ≡ sum_by (term_of term) (fields_of shape.now Register.Hwcfg0) }
+{
+    let entry_rule = if shape.mdcfg == 2 {
+        Rule::ReadWrite
+    } else {
+        Rule::ReadOnly
+    };
+    sum_of(
+        &[
+            field(0, 1, Rule::SetOnly, 0),
+            field(1, 6, Rule::ReadOnly, shape.domains as u32),
+            field(7, 2, Rule::ReadOnly, shape.mdcfg as u32),
+            field(9, 2, Rule::ReadOnly, shape.srcmd as u32),
+            field(11, 1, Rule::ReadOnly, shape.sps as u32),
+            field(12, 1, Rule::ReadOnly, shape.transl.is_some() as u32),
+            field(13, 1, Rule::ClearOnly, 1),
+            field(17, 7, entry_rule, shape.k.saturating_sub(1) as u32),
+        ],
+        term,
+    )
+}
+
+/// Every bit of the fields of a register that the shape has.
+pub fn whole(shape: &Shape, register: Register) -> u32
+    requires shape { IsValidShape shape.now }
+    requires there { IsTrue (has_register shape.now register) }
+    ensures { result ≡ whole shape.now register }
+{
+    total(shape, register, Term::Whole)
+}
+
+/// The bits of the read-only fields of a register that the shape has.
+pub fn read_only(shape: &Shape, register: Register) -> u32
+    requires shape { IsValidShape shape.now }
+    requires there { IsTrue (has_register shape.now register) }
+    ensures { result ≡ sum_by read_only_bits (fields_of shape.now register) }
+{
+    total(shape, register, Term::ReadOnly)
+}

@@ -1,0 +1,96 @@
+// Where the registers of a shape are.
+ghost use Rattle.std.specs.Prelude.{◌≡◌, ◌<◌, IsTrue, IfSome, OnSome};
+ghost use Rattle.event_words.specs.Registers.{register_at, scalar_at, srcmd_at, entry_at, named_at, has_register, index_count};
+
+use event_words::{Register, Shape};
+
+fn scalar_at(index: u32) -> Option<Register>
+    ensures { result ≡ scalar_at index }
+{
+    match index {
+        2 => Some(Register::Hwcfg0),
+        3 => Some(Register::Hwcfg1),
+        4 => Some(Register::Hwcfg2),
+        12 => Some(Register::Mdstall),
+        14 => Some(Register::Rridscp),
+        16 => Some(Register::Mdlck),
+        18 => Some(Register::Mdcfglck),
+        19 => Some(Register::Entrylck),
+        24 => Some(Register::ErrCfg),
+        25 => Some(Register::ErrInfo),
+        26 => Some(Register::ErrReqaddr),
+        27 => Some(Register::ErrReqaddrh),
+        28 => Some(Register::ErrReqid),
+        _ => None,
+    }
+}
+
+fn srcmd_at(shape: &Shape, row: u32, place: u32) -> Option<Register>
+    ensures { result ≡ srcmd_at shape.now row place }
+{
+    match (shape.srcmd == 2, place) {
+        (true, 0) => Some(Register::SrcmdPerm(row)),
+        (true, _) => None,
+        (false, 0) => Some(Register::SrcmdEn(row)),
+        (false, 2) => Some(Register::SrcmdR(row)),
+        (false, 4) => Some(Register::SrcmdW(row)),
+        (false, _) => None,
+    }
+}
+
+fn entry_at(row: u32, place: u32) -> Option<Register>
+    ensures { result ≡ entry_at row place }
+{
+    match place {
+        0 => Some(Register::EntryAddr(row)),
+        1 => Some(Register::EntryAddrh(row)),
+        2 => Some(Register::EntryCfg(row)),
+        _ => None,
+    }
+}
+
+fn named_at(shape: &Shape, index: u32) -> Option<Register>
+    ensures { result ≡ named_at shape.now index }
+{
+    if index < 512 {
+        scalar_at(index)
+    } else if index < 1024 {
+        Some(Register::Mdcfg(index - 512))
+    } else if index < 2048 {
+        srcmd_at(shape, (index - 1024) / 8, (index - 1024) % 8)
+    } else {
+        entry_at((index - 2048) / 4, (index - 2048) % 4)
+    }
+}
+
+fn has_register(shape: &Shape, register: Register) -> bool
+    ensures { result ≡ has_register shape.now register }
+{
+    match register {
+        Register::Mdcfg(domain) => shape.mdcfg == 0 && domain < shape.domains as u32,
+        Register::SrcmdEn(rrid) => shape.srcmd == 0 && rrid < shape.rrids as u32,
+        Register::SrcmdR(rrid) | Register::SrcmdW(rrid) => {
+            shape.srcmd == 0 && shape.sps && rrid < shape.rrids as u32
+        }
+        Register::SrcmdPerm(domain) => shape.srcmd == 2 && domain < shape.domains as u32,
+        Register::EntryAddr(entry) | Register::EntryAddrh(entry) | Register::EntryCfg(entry) => {
+            entry < shape.entries as u32
+        }
+        _ => true,
+    }
+}
+
+/// The register at an index (a byte offset divided by 4) of a unit of this shape. `None` where the
+/// offset is no register, or one of a domain, requester or entry that the shape doesn't have.
+pub fn register_at(shape: &Shape, index: u32) -> Option<Register>
+    ensures value { result ≡ register_at shape.now index }
+    ensures inside { OnSome result (index < index_count shape.now) }
+    ensures there { IfSome result (λ register. IsTrue (has_register shape.now register)) }
+{
+    let register = named_at(shape, index)?;
+    if has_register(shape, register) {
+        Some(register)
+    } else {
+        None
+    }
+}
