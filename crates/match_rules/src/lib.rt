@@ -17,7 +17,6 @@ mod sums;
 
 use entry_ranges::range_of;
 use event_words::{Access, Decision, Kind, Register};
-
 use register_fields::{Regs, has_bit};
 
 fn bound_of(regs: &Regs, domain: u32) -> u32

@@ -8,7 +8,6 @@ ghost use Rattle.event_words.specs.Domains.{is_associated};
 ghost use Rattle.event_words.specs.Stalls.{flag_of, is_selected, differs, flags_after_mdstall, flags_after_rridscp};
 ghost use Rattle.stall_control.specs.Counts.{Stalls, count_in, more_at, less_at, is_busy_at, none_stalled, is_busy_with};
 
-
 use register_fields::{Regs, has_bit};
 use srcmd_formats::domains_of;
 use std::marker::Model;

@@ -1,0 +1,15 @@
+pub mod HeldBack
+pub mod KeptBits
+pub mod Rows
+pub mod Gathers
+pub mod SubmissionLists
+pub mod Sims
+pub mod Openings
+pub mod Steps
+pub mod Rooms
+pub mod Judges
+pub mod States
+pub mod Submits
+pub mod Busy
+pub mod Lists
+pub mod Releases

@@ -1,0 +1,75 @@
+use Rattle.std.specs.Prelude.{◌≡◌, ℕ, ◌+◌, ◌*◌, ◌^◌, ◌==◌, ◌&&◌, ◌||◌, nat_lt, Bool, false, not, List, [], ◌∷◌, ◌++◌, if◌then◌else◌, filter, count_by, length, unwrap_or}
+use Rattle.event_words.specs.Registers.{count_of_bool}
+use Rattle.event_words.specs.declared.access.Access.{Access}
+use Rattle.event_words.specs.declared.reply.Denial.{Denial}
+use Rattle.event_words.specs.declared.reply.Decision.{Decision}
+use Rattle.event_words.specs.declared.reply.Decision.TheVariants as decisions
+use Rattle.event_words.specs.declared.reply.Verdict.{Verdict}
+use Rattle.event_words.specs.declared.reply.Verdict.TheVariants as verdicts
+use Rattle.event_words.specs.declared.reply.Reply.{Reply}
+use Rattle.event_words.specs.declared.reply.Reply.TheVariants as replies
+use Rattle.event_words.specs.declared.register.Register.TheVariants.{ErrCfg}
+use Rattle.event_words.specs.Registers.{written, word_at, has_bit}
+use Rattle.event_words.specs.Guards.{guarded_bits, reg}
+use Rattle.event_words.specs.Denials.{denial, recorded}
+use Rattle.event_words.specs.Stalls.{flag_of, flags_after}
+use Rattle.stall_queue.specs.declared.Waiting.{Waiting}
+use Rattle.stall_queue.specs.Queues.{Queue, is_of}
+use Rattle.stall_control.specs.Counts.{Stalls, count_in, more_at, less_at, is_busy_with}
+use Rattle.unit_core.specs.declared.parts.UnitParts.{UnitParts}
+use Rattle.unit_core.specs.Units.{stall_code}
+
+-- What one unit's registers, stall state and queue do, without the words of the open submissions.
+
+abbrev pub part_read : UnitParts → ℕ → ℕ
+part_read x index =
+    if index == 12 then word_at x.regs index + count_of_bool (is_busy_with x.stall.flags x.stall.counts)
+    else (if index == 14 then word_at x.regs index + stall_code x.regs x.stall.flags (word_at x.regs index) * 2 ^ 30
+    else word_at x.regs index)
+
+-- what a release of the requesters below k leaves in the queue
+abbrev pub stays_until : List Bool → ℕ → Waiting → Bool
+stays_until flags k w = flag_of flags w.rrid || not (nat_lt w.rrid k)
+
+abbrev pub is_released : List Bool → ℕ → ℕ → Bool
+is_released flags k s = nat_lt s k && not (flag_of flags s)
+
+abbrev pub moved_for : List Bool → ℕ → List Waiting → ℕ → ℕ
+moved_for flags k queue s = if is_released flags k s then count_by (is_of s) queue else 0
+
+-- The stall state and the queue after a release of the requesters below k.
+pub record IsReleased (k : ℕ) (s : Stalls) (q : Queue) (s' : Stalls) (q' : Queue) : Type 0 where
+  pub flags : s'.flags ≡ s.flags
+  pub len : length s'.counts ≡ length s.counts
+  pub counts : (r : ℕ) → count_in s'.counts r ≡ count_in s.counts r + moved_for s.flags k q.items r
+  pub items : q'.items ≡ filter (stays_until s.flags k) q.items
+  pub size : q'.size ≡ q.size
+
+-- A unit after a register write.
+pub record IsWritten (x y : UnitParts) (index value : ℕ) : Type 0 where
+  pub regs : y.regs ≡ written x.regs index value (guarded_bits x.regs index)
+  pub released : IsReleased x.regs.shape.rrids (record { flags = flags_after x.regs x.stall.flags index value; counts = x.stall.counts }) x.queue y.stall y.queue
+
+abbrev pub with_counts : UnitParts → List ℕ → UnitParts
+with_counts x counts = record x { stall = record { flags = x.stall.flags; counts = counts } }
+
+abbrev pub with_waiting : UnitParts → ℕ → ℕ → UnitParts
+with_waiting x place rrid = record x { queue = record { items = x.queue.items ++ record { place = place; rrid = rrid } ∷ []; size = x.queue.size } }
+
+abbrev pub part_stall_denial : UnitParts → Denial
+part_stall_denial x = denial x.regs 7 0xFFFF false false
+
+abbrev pub part_submit : ℕ → UnitParts → Access → UnitParts × Reply
+part_submit p x a =
+    if not (flag_of x.stall.flags a.rrid) then (with_counts x (more_at x.stall.counts a.rrid), replies.Passed)
+    else (if nat_lt (length x.queue.items) x.queue.size then (with_waiting x p a.rrid, replies.Queued)
+    else (if has_bit (reg x.regs ErrCfg) 3
+    then (record x { regs = recorded x.regs a (part_stall_denial x) }, replies.Stalled (part_stall_denial x))
+    else (x, replies.Busy)))
+
+abbrev pub part_verdict : UnitParts → Access → Decision → UnitParts × Verdict
+part_verdict x a decisions.Allowed =
+    (with_counts x (less_at x.stall.counts a.rrid), verdicts.Allowed (unwrap_or x.regs.shape.transl a.rrid))
+part_verdict x a (decisions.Denied kind entry mute_irq mute_err) =
+    let d = denial x.regs kind entry mute_irq mute_err in
+    (record (with_counts x (less_at x.stall.counts a.rrid)) { regs = recorded x.regs a d }, verdicts.Denied d)
