@@ -3,3 +3,7 @@ pub mod Units
 pub mod Parts
 pub mod Places
 pub mod Fabrics
+pub mod Histories
+pub mod Windows
+pub mod Guarded
+pub mod Reports
