@@ -5,4 +5,5 @@ pub mod Steps
 pub mod Callers
 pub mod Gathers
 pub mod Closing
+pub mod Histories
 pub mod Crossing
