@@ -7,3 +7,4 @@ pub mod Gathers
 pub mod Closing
 pub mod Histories
 pub mod Crossing
+pub mod Trials

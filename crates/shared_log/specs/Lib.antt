@@ -5,3 +5,4 @@ pub mod Steps
 pub mod Callers
 pub mod Histories
 pub mod Adding
+pub mod Trials

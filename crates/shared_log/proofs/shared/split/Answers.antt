@@ -59,7 +59,7 @@ returns-clause-caller g c =
     caller_of_fields m.state m.next_place m.places m.after c.split_seat-seat.result.table_id (invariant_of-result g c).1
 
 pub returns-clause-alone : goal.returns-clause-alone
-returns-clause-alone g c = λ one. 
+returns-clause-alone g c = λ one.
     let i = c.first.invariant.1 in
     let up = c.bring_up-machine.ensures in
     let log = ap (λ x. x.0.log) (c.split_seat-seat.ensures.4) ∙ ap (λ x. x.0.log) up.seat.1 in
