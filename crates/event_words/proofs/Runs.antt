@@ -126,6 +126,11 @@ event_at-word_of (Judge unit caller place) v =
     with-parts (w / 2 ^ 61) 4 (w / 2 ^ 56 % 32) caller (w / 2 ^ 54 % 4) unit (w % 2 ^ 54) place (omega arith) (omega arith) (omega arith) (omega arith)
     ∙ ap (λ (t : Bool). if t then Some (Judge unit caller place) else None) (lt-ltb place (2 ^ 24) v.1)
 
+-- every event word is read as a valid event
+pub event_at-event_word : (w : ℕ) → IsEventWord w → (e : Event) × IsValidEvent e × (event_at w ≡ Some e)
+unfolding IsEventWord
+event_at-event_word w (e, v, is) = (e, v, ap event_at is ∙ event_at-word_of e v)
+
 -- ---- runs
 
 module _ {S : Type 0} (after : S → ℕ → ℕ → S) where

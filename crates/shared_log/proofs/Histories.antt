@@ -1,6 +1,6 @@
 -- For the crates above: a caller's own events, with their places and replies, through calls and in a
 -- closed history.
-use Rattle.std.proofs.Common.{◌≡◌, ◌≢◌, ℕ, ◌+◌, ◌<◌, List, [], ◌∷◌, ◌++◌, length, sym, refl, ap, ◌∙◌, subst}
+use Rattle.std.proofs.Common.{◌≡◌, ◌≢◌, ℕ, ◌+◌, ◌<◌, List, [], ◌∷◌, ◌++◌, length, sym, refl, ap, ◌∙◌, arith}
 use Rattle.event_words.specs.declared.event.Event.{Event}
 use Rattle.event_words.specs.declared.reply.Reply.{Reply}
 use Rattle.event_words.specs.declared.record.LoggedEvent.{LoggedEvent}
@@ -9,9 +9,9 @@ use Rattle.event_words.specs.Records.{events_by}
 use Rattle.event_words.specs.Runs.{bearer, run, logged}
 use Rattle.event_words.specs.Valid.{IsValidEvent}
 use Rattle.event_words.specs.Word.{word_of}
-use Rattle.event_words.proofs.Runs.{events-of-beginning, events-after-call}
+use Rattle.event_words.proofs.Runs.{events-of-others, events-of-beginning, events-after-call}
 use Rattle.shared_log.specs.Words.{words_by, BeginsWithLog}
-use Rattle.shared_log.specs.Callers.{CallerView, AfterCall}
+use Rattle.shared_log.specs.Callers.{CallerView, AfterCall, KeepsBudget}
 use Rattle.shared_log.specs.Histories.{HoldsCaller}
 
 module _ {M S : Type 0} (after : S → ℕ → ℕ → S) (reply : S → ℕ → ℕ → Reply) where
@@ -42,3 +42,10 @@ module _ {M S : Type 0} (after : S → ℕ → ℕ → S) (reply : S → ℕ →
   own_events-in-history history c h =
       ap (λ (k : List ℕ). events_by c.number (logged after reply c.first k)) h.log.begins
       ∙ events-of-beginning after reply c.number c.first c.log h.log.rest h.log.no_more
+
+  -- A caller that made no event yet has none in its log.
+  pub own_events-at-first : (c : CallerView M S) → KeepsBudget c → c.left ≡ c.budget → own_events c ≡ []
+  own_events-at-first c budget left = events-of-others after reply c.number 0 c.first c.log (none (words_by c.number c.log) (omega arith)) where
+    none : (words : List ℕ) → length words ≡ 0 → words ≡ []
+    none [] h = refl
+    none (w ∷ ws) h = absurd (omega arith)

@@ -7,4 +7,3 @@ pub mod Gathers
 pub mod Closing
 pub mod Histories
 pub mod Crossing
-pub mod Trials

@@ -56,6 +56,7 @@ impl Shared {
         ensures belongs { IfOk result (λ r. Belongs r.1 r.0) }
         ensures first { IfOk result (λ r. (r.1.number ≡ 0) × (r.1.log ≡ []) × (r.1.left ≡ budget) × (r.1.made ≡ 1)) }
         ensures machine { IfOk result (λ r. (r.1.machine ≡ first) × (r.1.first ≡ M.state first)) }
+        ensures caller { IfOk result (λ r. IsCaller M.state M.next_place M.places M.after r.1) }
     {
         let total = callers as usize * budget as usize;
         let Ok(room) = Vec::from_elem(alloc, 0, total) else {
