@@ -5,6 +5,7 @@ ghost use Rattle.std.specs.Io.KnownBytes.{ReadConsumes, WriteAppends};
 ghost use Rattle.edge_io.specs.Adapters.{Counted};
 ghost use Rattle.edge_io.specs.Faults.{CountsFaults, one_more_fault};
 
+use crate::stream::counted;
 use crate::{Failed, Sink, Source};
 use std::io::{Read, Write};
 use std::marker::Model;
@@ -48,10 +49,7 @@ impl<R: Read> Source for StdSource<R> {
     {
         match self.inner.read(buf) {
             Ok(count) => Ok(count),
-            Err(_) => {
-                self.faults = self.faults.saturating_add(1);
-                Err(Failed)
-            }
+            Err(_) => Err(counted(&mut self.faults)),
         }
     }
 }
@@ -97,10 +95,7 @@ impl<W: Write> Sink for StdSink<W> {
     {
         match self.inner.write(piece) {
             Ok(count) if count > 0 || piece.is_empty() => Ok(count),
-            _ => {
-                self.faults = self.faults.saturating_add(1);
-                Err(Failed)
-            }
+            _ => Err(counted(&mut self.faults)),
         }
     }
 }

@@ -10,6 +10,8 @@
 mod adapters;
 mod memory;
 mod stream;
+#[cfg(test)]
+mod tests;
 mod whole;
 
 pub use adapters::{StdSink, StdSource};

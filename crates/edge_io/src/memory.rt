@@ -5,6 +5,7 @@ ghost use Rattle.std.specs.Io.KnownBytes.{ReadConsumes, WriteAppends};
 ghost use Rattle.edge_io.specs.Faults.{CountsFaults};
 ghost use Rattle.edge_io.specs.Memory.{SourceState, SinkState, given_count, after_read, after_failed_read, taken_count, after_write, after_failed_write};
 
+use crate::stream::counted;
 use crate::{Failed, Sink, Source};
 use std::alloc::Global;
 use std::marker::Model;
@@ -72,8 +73,7 @@ impl Source for MemorySource {
         let number = self.calls;
         self.calls = number.saturating_add(1);
         if self.failing.contains(&number) {
-            self.faults = self.faults.saturating_add(1);
-            return Err(Failed);
+            return Err(counted(&mut self.faults));
         }
         let count = self.chunk.min(buf.len()).min(self.bytes.len() - self.at);
         buf[..count].copy_from_slice(&self.bytes[self.at..self.at + count]);
@@ -159,12 +159,10 @@ impl Sink for MemorySink {
         self.calls = number.saturating_add(1);
         let free = self.room - self.bytes.len();
         if self.failing.contains(&number) {
-            self.faults = self.faults.saturating_add(1);
-            return Err(Failed);
+            return Err(counted(&mut self.faults));
         }
         if free == 0 {
-            self.faults = self.faults.saturating_add(1);
-            return Err(Failed);
+            return Err(counted(&mut self.faults));
         }
         let count = self.chunk.min(piece.len()).min(free);
         self.bytes.extend_from_slice(&piece[..count]).unwrap();

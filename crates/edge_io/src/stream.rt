@@ -1,13 +1,23 @@
 // Where bytes come from and where they go. A stream may tell what it has left or took, and it counts its faults.
-ghost use Rattle.std.specs.Prelude.{ℕ, ◌<◌, List, length, IfOk};
+ghost use Rattle.std.specs.Prelude.{◌≡◌, ℕ, ◌<◌, ◌≤◌, List, length, IfOk};
 ghost use Rattle.std.specs.declared.option.Option.{Option};
 ghost use Rattle.std.specs.Io.{ReadsAtMost, WritesAtMost};
 ghost use Rattle.std.specs.Io.KnownBytes.{ReadConsumes, WriteAppends};
-ghost use Rattle.edge_io.specs.Faults.{CountsFaults};
+ghost use Rattle.edge_io.specs.Faults.{CountsFaults, Rose, one_more_fault};
 
 /// A call failed: it moved no bytes, and the count of faults rose.
 #[derive(Clone, Copy, Debug, PartialEq, Eq)]
 pub struct Failed;
+
+/// Counts a fault.
+pub(crate) fn counted(faults: &mut u64) -> Failed
+    ensures one { faults.new ≡ one_more_fault faults.old }
+    ensures kept { faults.old ≤ faults.new }
+    ensures rose { Rose faults.old faults.new }
+{
+    *faults = faults.saturating_add(1);
+    Failed
+}
 
 /// Where bytes come from.
 pub trait Source {
