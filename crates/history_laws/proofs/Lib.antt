@@ -1,0 +1,12 @@
+pub mod Runs
+pub mod Items
+pub mod QueueLaw
+pub mod Registers
+pub mod WindowLaw
+pub mod TicketSteps
+pub mod TicketLaw
+pub mod Guarding
+pub mod GuardLaw
+pub mod BusyLaw
+pub mod Kept
+pub mod VerdictLaw
