@@ -10,3 +10,4 @@ pub mod GuardLaw
 pub mod BusyLaw
 pub mod Kept
 pub mod VerdictLaw
+pub mod EventWords
