@@ -11,3 +11,4 @@ pub mod BusyLaw
 pub mod Kept
 pub mod VerdictLaw
 pub mod EventWords
+pub mod WordHistories
