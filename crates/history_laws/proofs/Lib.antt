@@ -12,3 +12,5 @@ pub mod Kept
 pub mod VerdictLaw
 pub mod EventWords
 pub mod WordHistories
+pub mod LoggedTests
+pub mod TicketReplies
