@@ -1,0 +1,72 @@
+-- Busy stands only where the queue is full.
+use Rattle.std.proofs.Common.{◌≡◌, ℕ, ◌≤◌, true, false, not, ltb, Some, refl, subst, arith}
+use Rattle.std.proofs.lemmas.Bool.{cond_both, not-false, ltb-false}
+use Rattle.event_words.specs.declared.access.Access.{Access}
+use Rattle.event_words.specs.declared.event.Event.{Event}
+use Rattle.event_words.specs.declared.event.Event.TheVariants.{RegWrite, RegRead, Submit, Judge}
+use Rattle.event_words.specs.declared.reply.Reply.{Reply}
+use Rattle.event_words.specs.declared.reply.Reply.TheVariants as replies
+use Rattle.event_words.specs.declared.register.Register.TheVariants.{ErrCfg}
+use Rattle.event_words.specs.Registers.{has_bit}
+use Rattle.event_words.specs.Guards.{reg}
+use Rattle.event_words.specs.Events.{unit_of}
+use Rattle.unit_core.specs.Units.{UnitState, unit_step, submit_step, is_stalled, queue_length}
+use Rattle.unit_core.specs.Histories.{event_at}
+use Rattle.history_laws.specs.Busy.{LawBusy}
+use Rattle.history_laws.proofs.Items.{judge_cases}
+use Rattle.history_laws.proofs.Runs.{own_state, own_at, reply_is, event_of, answered_shape}
+use Rattle.history_laws.proofs.QueueLaw.{own_sound}
+
+record IsFullFor (x : UnitState) (a : Access) : Type 0 where
+  pub stalled : is_stalled x a.rrid ≡ true
+  pub full : x.registers.shape.queue ≤ queue_length x
+  pub silent : has_bit (reg x.registers ErrCfg) 3 ≡ false
+
+submit_busy : (k : ℕ) (x : UnitState) (caller : ℕ) (a : Access) → (submit_step k x caller a).1 ≡ replies.Busy → IsFullFor x a
+submit_busy k x caller a =
+    cond_both (not (is_stalled x a.rrid)) _ _ (λ (r : UnitState × Reply). r.1 ≡ replies.Busy → IsFullFor x a)
+    (λ e q. absurd (let n : replies.Passed ≡ replies.Busy = q in cc))
+    (λ e. cond_both (ltb (queue_length x) x.registers.shape.queue) _ _ (λ (r : UnitState × Reply). r.1 ≡ replies.Busy → IsFullFor x a)
+    (λ f q. absurd (let n : replies.Queued ≡ replies.Busy = q in cc))
+    (λ f. cond_both (has_bit (reg x.registers ErrCfg) 3) _ _ (λ (r : UnitState × Reply). r.1 ≡ replies.Busy → IsFullFor x a)
+    (λ g q. absurd (let n : replies.Stalled _ ≡ replies.Busy = q in cc))
+    (λ g q. record { stalled = not-false (is_stalled x a.rrid) e; full = ltb-false (queue_length x) x.registers.shape.queue f; silent = g })))
+
+-- what is replied Busy is a submission
+record IsTurnedAway (x : UnitState) (e : Event) : Type 0 where
+  pub caller : ℕ
+  pub access : Access
+  pub event : e ≡ Submit (unit_of e) caller access
+  pub full : IsFullFor x access
+
+step_busy : (k : ℕ) (x : UnitState) (e : Event) → (unit_step k x e).1 ≡ replies.Busy → IsTurnedAway x e
+step_busy k x (RegWrite unit caller index value) q = absurd (let n : replies.Value _ ≡ replies.Busy = q in cc)
+step_busy k x (RegRead unit caller index) q = absurd (let n : replies.Value _ ≡ replies.Busy = q in cc)
+step_busy k x (Submit unit caller a) q = record { caller = caller; access = a; event = refl; full = submit_busy k x caller a q }
+step_busy k x (Judge unit caller place) q =
+    absurd (judge_cases (λ r. r.1 ≡ replies.Busy → ⊥) x place caller
+    (λ e q. let n : replies.NoSuch ≡ replies.Busy = q in cc)
+    (λ item e f q. let n : replies.Held ≡ replies.Busy = q in cc)
+    (λ item e f v q. let n : replies.Verdict v ≡ replies.Busy = q in cc)
+    (λ item e f d v q. let n : replies.Verdict v ≡ replies.Busy = q in cc) q)
+
+pub law_busy : LawBusy
+law_busy h k busy =
+    let here = event_of h k replies.Busy busy in
+    let e = here.0 in
+    let there = answered_shape h k e replies.Busy here.1 busy (λ n. cc) in
+    let x = own_state h.events (unit_of e) there.0 k in
+    let state = own_at h (unit_of e) k there.0 there.1 in
+    let turned = step_busy k x e (reply_is h k e replies.Busy x here.1 busy state) in
+    let sound = own_sound h.events (unit_of e) there.0 k in
+    record {
+      unit = unit_of e;
+      caller = turned.caller;
+      access = turned.access;
+      state = x;
+      event = subst (λ f. event_at h k ≡ Some f) turned.event here.1;
+      here = state;
+      stalled = turned.full.stalled;
+      full = omega (arith, turned.full.full, sound.fits);
+      silent = turned.full.silent;
+    }

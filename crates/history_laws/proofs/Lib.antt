@@ -1,0 +1,16 @@
+pub mod Runs
+pub mod Items
+pub mod QueueLaw
+pub mod Registers
+pub mod WindowLaw
+pub mod TicketSteps
+pub mod TicketLaw
+pub mod Guarding
+pub mod GuardLaw
+pub mod BusyLaw
+pub mod Kept
+pub mod VerdictLaw
+pub mod EventWords
+pub mod WordHistories
+pub mod LoggedTests
+pub mod TicketReplies

@@ -1,0 +1,154 @@
+-- A list of event words as a history: what stands at each place, and what is logged of it.
+use Rattle.std.proofs.Common.{◌≡◌, ℕ, suc, zero, ◌+◌, ◌<◌, List, [], ◌∷◌, ◌++◌, Option, Some, None, length, map, take, refl, sym, ap, ◌∙◌, subst, arith}
+use Rattle.std.specs.Prelude.{slice_get, option_map, option_and_then}
+use Rattle.std.specs.List.{AllByRecursion}
+use Rattle.event_words.specs.declared.shape.Shape.{Shape}
+use Rattle.event_words.specs.declared.event.Event.{Event}
+use Rattle.event_words.specs.declared.reply.Reply.{Reply}
+use Rattle.event_words.specs.declared.record.LoggedEvent.{LoggedEvent}
+use Rattle.event_words.specs.Word.{event_at as event_of_word}
+use Rattle.event_words.specs.Runs.{IsEventWord, run, run_from, logged_first, logged_from}
+use Rattle.unit_core.specs.Units.{UnitState, unit_at_reset, event_step, decoded_step}
+use Rattle.unit_core.specs.Fabrics.{state_after_word, reply_to_word}
+use Rattle.unit_core.specs.Histories.{History, after_event, units_at, event_at, reply_at, with_event, events_of_words, history_of, units_after, logged_in}
+use Rattle.history_laws.proofs.EventWords.{HasEvent, word_event}
+
+-- ---- events
+
+pub length_events : (words : List ℕ) → AllByRecursion IsEventWord words → length (events_of_words words) ≡ length words
+length_events [] all = refl
+length_events (w ∷ ws) all =
+    let e = word_event w all.0 in
+    ap (λ o. length (with_event o (events_of_words ws))) e.back ∙ ap suc (length_events ws all.1)
+
+-- The event at a place is that of the word at the place.
+pub events_at_words : (words : List ℕ) → AllByRecursion IsEventWord words → (k : ℕ) → slice_get (events_of_words words) k ≡ option_and_then event_of_word (slice_get words k)
+events_at_words [] all k = refl
+events_at_words (w ∷ ws) all zero =
+    let e = word_event w all.0 in
+    ap (λ o. slice_get (with_event o (events_of_words ws)) zero) e.back ∙ sym e.back
+events_at_words (w ∷ ws) all (suc k) =
+    let e = word_event w all.0 in
+    ap (λ o. slice_get (with_event o (events_of_words ws)) (suc k)) e.back ∙ events_at_words ws all.1 k
+
+pub word_at_place : (words : List ℕ) → AllByRecursion IsEventWord words → (k w : ℕ) → slice_get words k ≡ Some w → HasEvent w
+word_at_place [] all k w q = absurd (let n : None ≡ Some w = q in cc)
+word_at_place (v ∷ ws) all zero w q = let same : v ≡ w = cc in subst HasEvent same (word_event v all.0)
+word_at_place (v ∷ ws) all (suc k) w q = word_at_place ws all.1 k w q
+
+pub event_at_words : (shapes : List Shape) (words : List ℕ) → AllByRecursion IsEventWord words → (k w : ℕ) (e : Event) → slice_get words k ≡ Some w → event_of_word w ≡ Some e → event_at (history_of shapes words) k ≡ Some e
+event_at_words shapes words all k w e q r = events_at_words words all k ∙ ap (option_and_then event_of_word) q ∙ r
+
+-- ---- units
+
+abbrev after_word_at : ℕ → List UnitState → Option ℕ → List UnitState
+after_word_at k us None = us
+after_word_at k us (Some w) = state_after_word us k w
+
+one_more : (j : ℕ) (us : List UnitState) (words : List ℕ) (k : ℕ)
+    → run_from state_after_word j us (take (suc k) words) ≡ after_word_at (j + k) (run_from state_after_word j us (take k words)) (slice_get words k)
+one_more j us [] zero = refl
+one_more j us [] (suc k) = refl
+one_more j us (w ∷ ws) zero = let q : j ≡ j + 0 = omega arith in ap (λ n. state_after_word us n w) q
+one_more j us (w ∷ ws) (suc k) =
+    let q : suc j + k ≡ j + suc k = omega arith in
+    one_more (suc j) (state_after_word us j w) ws k
+    ∙ ap (λ n. after_word_at n (run_from state_after_word (suc j) (state_after_word us j w) (take k ws)) (slice_get ws k)) q
+
+same_units : (k : ℕ) (us : List UnitState) (o : Option Event) → after_event k us o ≡ (decoded_step k us o).0
+same_units k us None = refl
+same_units k us (Some e) = refl
+
+same_step : (k : ℕ) (us : List UnitState) (o : Option ℕ) → after_event k us (option_and_then event_of_word o) ≡ after_word_at k us o
+same_step k us None = refl
+same_step k us (Some w) = same_units k us (event_of_word w)
+
+-- The units before a place are those after the words before it.
+pub units_at_words : (shapes : List Shape) (words : List ℕ) → AllByRecursion IsEventWord words → (k : ℕ) → units_at (history_of shapes words) k ≡ run state_after_word (map unit_at_reset shapes) (take k words)
+units_at_words shapes words all zero = refl
+units_at_words shapes words all (suc k) =
+    let us = run state_after_word (map unit_at_reset shapes) (take k words) in
+    let z : k ≡ 0 + k = omega arith in
+    ap (after_event k (units_at (history_of shapes words) k)) (events_at_words words all k)
+    ∙ ap (λ vs. after_event k vs (option_and_then event_of_word (slice_get words k))) (units_at_words shapes words all k)
+    ∙ same_step k us (slice_get words k)
+    ∙ ap (λ n. after_word_at n us (slice_get words k)) z
+    ∙ sym (one_more 0 (map unit_at_reset shapes) words k)
+
+-- ---- replies
+
+-- The reply at a place is that to the word at the place.
+pub reply_at_words : (shapes : List Shape) (words : List ℕ) → AllByRecursion IsEventWord words → (k w : ℕ) → slice_get words k ≡ Some w
+    → reply_at (history_of shapes words) k ≡ Some (reply_to_word (run state_after_word (map unit_at_reset shapes) (take k words)) k w)
+reply_at_words shapes words all k w q =
+    let e = word_at_place words all k w q in
+    let us = run state_after_word (map unit_at_reset shapes) (take k words) in
+    ap (option_map (λ (e : Event). (event_step k (units_at (history_of shapes words) k) e).1)) (event_at_words shapes words all k w e.event q e.back)
+    ∙ ap (λ vs. Some (event_step k vs e.event).1) (units_at_words shapes words all k)
+    ∙ ap (λ o. Some (decoded_step k us o).1) (sym e.back)
+
+-- ---- what is logged
+
+abbrev pub entry : ℕ → Option Event → Option Reply → Option LoggedEvent
+entry k (Some e) (Some r) = Some (record { place = k; event = e; reply = r })
+entry k _ _ = None
+
+logged_at : (j : ℕ) (us : List UnitState) (words : List ℕ) → AllByRecursion IsEventWord words → (k : ℕ)
+    → slice_get (logged_from state_after_word reply_to_word j us words) k
+    ≡ entry (j + k) (option_and_then event_of_word (slice_get words k)) (option_map (reply_to_word (run_from state_after_word j us (take k words)) (j + k)) (slice_get words k))
+logged_at j us [] all k = refl
+logged_at j us (w ∷ ws) all zero =
+    let e = word_event w all.0 in
+    let z : j ≡ j + 0 = omega arith in
+    subst (λ o. slice_get (logged_first j (reply_to_word us j w) o (logged_from state_after_word reply_to_word (suc j) (state_after_word us j w) ws)) 0 ≡ entry (j + 0) o (Some (reply_to_word us (j + 0) w))) (sym e.back)
+    (ap (λ n. Some (record { place = n; event = e.event; reply = reply_to_word us n w })) z)
+logged_at j us (w ∷ ws) all (suc k) =
+    let e = word_event w all.0 in
+    let q : suc j + k ≡ j + suc k = omega arith in
+    ap (λ o. slice_get (logged_first j (reply_to_word us j w) o (logged_from state_after_word reply_to_word (suc j) (state_after_word us j w) ws)) (suc k)) e.back
+    ∙ logged_at (suc j) (state_after_word us j w) ws all.1 k
+    ∙ ap (λ n. entry n (option_and_then event_of_word (slice_get ws k)) (option_map (reply_to_word (run_from state_after_word (suc j) (state_after_word us j w) (take k ws)) n) (slice_get ws k))) q
+
+-- The entry of a place has the place, its event and its reply, and there are no others.
+pub logged_in_at : (shapes : List Shape) (words : List ℕ) → AllByRecursion IsEventWord words → (k : ℕ)
+    → slice_get (logged_in shapes words) k ≡ entry k (event_at (history_of shapes words) k) (reply_at (history_of shapes words) k)
+logged_in_at shapes words all k =
+    let z : 0 + k ≡ k = omega arith in
+    let us = map unit_at_reset shapes in
+    logged_at 0 us words all k
+    ∙ ap (λ n. entry n (option_and_then event_of_word (slice_get words k)) (option_map (reply_to_word (run state_after_word us (take k words)) n) (slice_get words k))) z
+    ∙ ap (λ o. entry k o (option_map (reply_to_word (run state_after_word us (take k words)) k) (slice_get words k))) (sym (events_at_words words all k))
+    ∙ ap (entry k (event_at (history_of shapes words) k)) (sym (reply_there (slice_get words k) refl))
+  where
+    reply_there : (o : Option ℕ) → slice_get words k ≡ o → reply_at (history_of shapes words) k ≡ option_map (reply_to_word (run state_after_word (map unit_at_reset shapes) (take k words)) k) o
+    reply_there None q =
+        ap (option_map (λ (e : Event). (event_step k (units_at (history_of shapes words) k) e).1)) (events_at_words words all k ∙ ap (option_and_then event_of_word) q)
+    reply_there (Some w) q = reply_at_words shapes words all k w q
+
+-- What an entry at an index says of the history.
+pub record IsEntry (shapes : List Shape) (words : List ℕ) (k : ℕ) (x : LoggedEvent) : Type 0 where
+  pub place : x.place ≡ k
+  pub event : event_at (history_of shapes words) k ≡ Some x.event
+  pub reply : reply_at (history_of shapes words) k ≡ Some x.reply
+
+pub is_entry : (shapes : List Shape) (words : List ℕ) → AllByRecursion IsEventWord words → (k : ℕ) (x : LoggedEvent) → slice_get (logged_in shapes words) k ≡ Some x → IsEntry shapes words k x
+is_entry shapes words all k x q = by_parts (event_at (history_of shapes words) k) (reply_at (history_of shapes words) k) refl refl (sym (logged_in_at shapes words all k) ∙ q)
+  where
+    by_parts : (o : Option Event) (r : Option Reply) → event_at (history_of shapes words) k ≡ o → reply_at (history_of shapes words) k ≡ r → entry k o r ≡ Some x → IsEntry shapes words k x
+    by_parts None r p s e = absurd (let n : None ≡ Some x = e in cc)
+    by_parts (Some v) None p s e = absurd (let n : None ≡ Some x = e in cc)
+    by_parts (Some v) (Some r) p s e =
+        let is : record { place = k; event = v; reply = r } ≡ x = some_same _ x e in
+        record {
+          place = sym (ap (λ (y : LoggedEvent). y.place) is);
+          event = p ∙ ap (λ (y : LoggedEvent). Some y.event) is;
+          reply = s ∙ ap (λ (y : LoggedEvent). Some y.reply) is;
+        }
+      where
+        some_same : (a b : LoggedEvent) → Some a ≡ Some b → a ≡ b
+        some_same a b e = cc
+
+pub has_entry : (shapes : List Shape) (words : List ℕ) → AllByRecursion IsEventWord words → (k : ℕ) (e : Event) (r : Reply) → event_at (history_of shapes words) k ≡ Some e → reply_at (history_of shapes words) k ≡ Some r
+    → slice_get (logged_in shapes words) k ≡ Some (record { place = k; event = e; reply = r })
+has_entry shapes words all k e r p q =
+    logged_in_at shapes words all k ∙ ap (λ o. entry k o (reply_at (history_of shapes words) k)) p ∙ ap (entry k (Some e)) q

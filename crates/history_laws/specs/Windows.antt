@@ -1,0 +1,7 @@
+use Rattle.std.specs.Prelude.{ℕ}
+use Rattle.unit_core.specs.Histories.{History}
+use Rattle.unit_core.specs.Windows.{IsInDrainedWindow, IsVerdictOn}
+
+-- No place in a drained window of a requester is a verdict on an access of that requester.
+abbrev pub LawWindows : Type 0
+LawWindows = (h : History) (u s b p : ℕ) → IsInDrainedWindow h u s b p → IsVerdictOn h u s p → ⊥

@@ -1,0 +1,46 @@
+//! Laws over every history of the units, from reset on.
+//!
+//! Each law is the clause of a function that takes and answers nothing. It speaks of every list of valid
+//! shapes and of every list of events, in any order and by any callers.
+#![tactic(auto)]
+
+ghost use Rattle.history_laws.specs.Queues.{LawQueued};
+ghost use Rattle.history_laws.specs.Windows.{LawWindows};
+ghost use Rattle.history_laws.specs.Guards.{LawGuards};
+ghost use Rattle.history_laws.specs.Tickets.{LawTickets};
+ghost use Rattle.history_laws.specs.Verdicts.{LawVerdicts};
+ghost use Rattle.history_laws.specs.Laws.{LawKept};
+
+/// In every state each queued submission has a known, stalled requester, and a queue has at most its
+/// size.
+pub fn law_queued()
+    ensures { LawQueued }
+{}
+
+/// No verdict on an access of a requester is given in a drained window of the requester.
+pub fn law_windows()
+    ensures { LawWindows }
+{}
+
+/// A bit that is guarded at a place is guarded at each later place, and has the same value there.
+pub fn law_guards()
+    ensures { LawGuards }
+{}
+
+/// A submission that was passed or queued stands once in the queue or flight of its unit, up to the first
+/// verdict on it. Its caller's judgements reply `Held` before that verdict and `NoSuch` after it, and
+/// always `Held` where there is none.
+pub fn law_tickets()
+    ensures { LawTickets }
+{}
+
+/// A verdict is what the registers of its place decide on its submission's access.
+pub fn law_verdicts()
+    ensures { LawVerdicts }
+{}
+
+/// What a program may promise of each of its histories: no verdict in a drained window, `Busy` only where
+/// the queue is full, and guarded bits that never change.
+pub fn law_kept()
+    ensures { LawKept }
+{}
