@@ -1,4 +1,4 @@
-use Rattle.std.proofs.Common.{◌≡◌, ℕ, ◌+◌, ◌*◌, ◌<◌, ◌≤◌, length, List, take, get_or, sym, ap, ◌∙◌, arith}
+use Rattle.std.proofs.Common.{◌≡◌, ℕ, ◌+◌, ◌*◌, ◌<◌, length, List, take, get_or, sym, ap, ◌∙◌, arith}
 use Rattle.event_words.specs.Runs.{run}
 use Rattle.event_words.proofs.Runs.{run-take}
 use Rattle.std.proofs.Math.Seq.{take-length}

@@ -1,8 +1,7 @@
-use Rattle.std.proofs.Common.{◌≡◌, ℕ, ◌+◌, ◌*◌, ◌<◌, ◌≤◌, [], sym, ap, ◌∙◌, subst, arith}
+use Rattle.std.proofs.Common.{◌≡◌, ◌*◌, ◌<◌, ◌≤◌, [], sym, ap, ◌∙◌, subst, arith}
 use Rattle.event_words.specs.Runs.{run}
 use Rattle.shared_log.specs.Words.{words_by}
 use Rattle.shared_log.specs.SeatViews.{new_caller}
-use Rattle.shared_log.specs.Callers.{HasCallerFields}
 use Rattle.shared_log.proofs.Callers.{comes, caller_of_fields}
 use Rattle.shared_log.proofs.Counting.{only_first}
 use Rattle.shared_log.proofs.Steps.{cuts}
