@@ -67,7 +67,7 @@ module _ (C B : ℕ) where
     unmade = r.unmade;
     done = r.done;
     seated = λ j u at live. ⊎_elim
-        (λ e. let P : ℕ × SeatView → Type 0 = λ z. IsCallerSeat C B r.log r.seat r.made r.joined z.0 z.1 in subst P (λ i. (sym e.0 i, e.1 i)) (q (ap (λ (x : SeatView). x.live) e.1 ∙ live)))
+        (λ e. let P : ℕ × SeatView → Type 0 = λ z. IsCallerSeat C B r.log r.seat r.made r.joined z.0 z.1 in subst P {x = (id, v)} {y = (j, u)} (λ i. (sym e.0 i, e.1 i)) (q (ap (λ (x : SeatView). x.live) e.1 ∙ live)))
         (λ e. r.seated j u e.1 live)
         (at_set views id j v u at);
   }
@@ -107,7 +107,7 @@ module _ (C B : ℕ) where
         unmade = λ c h. let u = r.unmade c h in (words-snoc-other c r.log w (λ e. omega arith) ∙ u.0, u.1);
         done = λ c l at'. let d = r.done c l at' in (d.0, d.1, has-more (suc c) r.log l w d.2 (λ e. some-ne-none id (sym q.seat_is ∙ ap r.seat (sym mine ∙ e) ∙ d.1)));
         seated = λ j u at' live'. ⊎_elim
-            (λ e. let P : ℕ × SeatView → Type 0 = λ z. IsCallerSeat C B (r.log ++ w ∷ []) r.seat r.made r.joined z.0 z.1 in subst P (λ i. (sym e.0 i, e.1 i)) record {
+            (λ e. let P : ℕ × SeatView → Type 0 = λ z. IsCallerSeat C B (r.log ++ w ∷ []) r.seat r.made r.joined z.0 z.1 in subst P {x = (id, with_word v w)} {y = (j, u)} (λ i. (sym e.0 i, e.1 i)) record {
               callers_is = q.callers_is;
               budget_is = q.budget_is;
               seat_is = q.seat_is;
@@ -175,7 +175,7 @@ module _ (C B : ℕ) where
         done = λ c l at'. let d = r.done c l at' in let lt = d.0 in (omega arith, seat_more-same r.seat r.made n (suc c) (λ e. omega arith) ∙ d.1, d.2);
         seated = λ j u at' live'. ⊎_elim
             (λ old. ⊎_elim
-            (λ e. let P : ℕ × SeatView → Type 0 = λ z. IsCallerSeat C B r.log seat' (r.made + 1) r.joined z.0 z.1 in subst P (λ i. (sym e.0 i, e.1 i)) record {
+            (λ e. let P : ℕ × SeatView → Type 0 = λ z. IsCallerSeat C B r.log seat' (r.made + 1) r.joined z.0 z.1 in subst P {x = (id, with_caller v)} {y = (j, u)} (λ i. (sym e.0 i, e.1 i)) record {
               callers_is = q.callers_is;
               budget_is = q.budget_is;
               has = q.has;
@@ -190,7 +190,7 @@ module _ (C B : ℕ) where
               first = λ z. absurd (apart words views r id j v u q p e.0 (z ∙ sym is_first));
             })
             (at_set views id j (with_caller v) u old))
-            (λ e. let P : ℕ × SeatView → Type 0 = λ z. IsCallerSeat C B r.log seat' (r.made + 1) r.joined z.0 z.1 in subst P (λ i. (sym e.0 i, e.1 i)) record {
+            (λ e. let P : ℕ × SeatView → Type 0 = λ z. IsCallerSeat C B r.log seat' (r.made + 1) r.joined z.0 z.1 in subst P {x = (n, new_caller v)} {y = (j, u)} (λ i. (sym e.0 i, e.1 i)) record {
               callers_is = q.callers_is;
               budget_is = q.budget_is;
               seat_is = ap seat' made ∙ seat_more-here r.seat r.made n;
@@ -244,12 +244,12 @@ module _ (C B : ℕ) where
             (λ old. let d = r.done c l old in (d.0, seat_less-none r.seat u.number (suc c) d.1, d.2))
             (λ e. let is : u.number ≡ suc c = let x = e.0 in omega arith in
             let P : ℕ × List ℕ → Type 0 = λ z. (z.0 < r.made) × (seat' z.0 ≡ none) × BeginsWithLog z.0 r.log z.1 in
-            subst P (λ i. (is i, e.1 i)) (number_made words views r u.number other p.seat_is, seat_less-here r.seat u.number, p.has))
+            subst P {x = (u.number, u.log)} {y = (suc c, l)} (λ i. (is i, e.1 i)) (number_made words views r u.number other p.seat_is, seat_less-here r.seat u.number, p.has))
             (at_end r.joined (u.log) l c ent);
         seated = λ j w ent live''. ⊎_elim
             (λ e. absurd (let f : false ≡ true = ap (λ (x : SeatView). x.live) e.1 ∙ live'' in cc))
             (λ t. ⊎_elim
-            (λ e. let P : ℕ × SeatView → Type 0 = λ z. IsCallerSeat C B r.log seat' r.made joined' z.0 z.1 in subst P (λ i. (sym e.0 i, e.1 i)) record {
+            (λ e. let P : ℕ × SeatView → Type 0 = λ z. IsCallerSeat C B r.log seat' r.made joined' z.0 z.1 in subst P {x = (id, with_joined_log v u)} {y = (j, w)} (λ i. (sym e.0 i, e.1 i)) record {
               callers_is = q.callers_is;
               budget_is = q.budget_is;
               has = q.has;

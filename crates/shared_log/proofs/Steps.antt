@@ -118,7 +118,7 @@ module _ (C B : ℕ) where
     unmade = λ c h. (refl, only-first c h);
     done = λ c l e. absurd (some-ne-none l (sym e));
     seated = λ j u at live. ⊎_elim (λ e. absurd (some-ne-none u (sym e)))
-        (λ e. let P : ℕ × SeatView → Type 0 = λ z. IsCallerSeat C B [] (λ c. cond (eqb c 0) (some 0) none) 1 [] z.0 z.1 in subst P (λ i. (sym e.0 i, e.1 i)) record {
+        (λ e. let P : ℕ × SeatView → Type 0 = λ z. IsCallerSeat C B [] (λ c. cond (eqb c 0) (some 0) none) 1 [] z.0 z.1 in subst P {x = (0, opening_view C B)} {y = (j, u)} (λ i. (sym e.0 i, e.1 i)) record {
           callers_is = refl;
           budget_is = refl;
           seat_is = refl;
