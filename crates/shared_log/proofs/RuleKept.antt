@@ -31,8 +31,8 @@ module _ (C B : ℕ) where
   number_made words views r c id is = made_above words views r c id is (dec_le r.made c)
 
   -- what a live view knows
-  pub knows_of : (words : List ℕ) (views : List SeatView) (r : IsSharedLog C B words views) (id : ℕ) (v : SeatView) → get_elem? views id ≡ some v → v.live ≡ true → IsSeatView v
-  knows_of words views r id v at live =
+  pub view_kept : (words : List ℕ) (views : List SeatView) (r : IsSharedLog C B words views) (id : ℕ) (v : SeatView) → get_elem? views id ≡ some v → v.live ≡ true → IsSeatView v
+  view_kept words views r id v at live =
       let q = r.seated id v at live in
       let n = number_made words views r v.number id q.seat_is in
       let few = r.few in
@@ -84,7 +84,7 @@ module _ (C B : ℕ) where
       let same : r.log ≡ v.log = q.has.begins ∙ ap (λ (l : List ℕ). v.log ++ l) over ∙ append-nil v.log in
       let size : v.callers * v.budget ≡ C * B = ap (λ (k : ℕ). k * v.budget) q.callers_is ∙ ap (λ (k : ℕ). C * k) q.budget_is in
       let bud = q.budget_is in
-      let room : length v.log < C * B = let h = knows_of words views r id v at live in let m = room_of v h v.number h.number (omega arith) in omega arith in
+      let room : length v.log < C * B = let h = view_kept words views r id v at live in let m = room_of v h v.number h.number (omega arith) in omega arith in
       let long : length r.log ≡ length v.log = ap length same in
       let f : ℕ = r.free - 1 in
       let one : r.free ≡ suc f = let t = r.total in omega arith in
@@ -152,9 +152,9 @@ module _ (C B : ℕ) where
   seat_more-here : (seat : ℕ → Option ℕ) (c n : ℕ) → seat_more seat c n c ≡ some n
   seat_more-here seat c n = ap (λ (t : Bool). cond t (some n) (seat c)) (eq-eqb c c refl)
 
-  pub splits : (words : List ℕ) (views : List SeatView) (r : IsSharedLog C B words views) (id : ℕ) (v : SeatView) → get_elem? views id ≡ some v → v.live ≡ true → v.number ≡ 0 → v.made < C
+  pub split_kept : (words : List ℕ) (views : List SeatView) (r : IsSharedLog C B words views) (id : ℕ) (v : SeatView) → get_elem? views id ≡ some v → v.live ≡ true → v.number ≡ 0 → v.made < C
       → IsSharedLog C B words (set views id (with_caller v) ++ new_caller v ∷ [])
-  splits words views r id v at live is_first few =
+  split_kept words views r id v at live is_first few =
       let q = r.seated id v at live in
       let below = number_made words views r v.number id q.seat_is in
       let made : v.made ≡ r.made = (q.first is_first).0 in
@@ -217,10 +217,10 @@ module _ (C B : ℕ) where
   seat_less-here : (seat : ℕ → Option ℕ) (c : ℕ) → seat_less seat c c ≡ none
   seat_less-here seat c = ap (λ (t : Bool). cond t none (seat c)) (eq-eqb c c refl)
 
-  pub joins : (words : List ℕ) (views : List SeatView) (r : IsSharedLog C B words views) (id : ℕ) (v : SeatView) → get_elem? views id ≡ some v → v.live ≡ true → v.number ≡ 0
+  pub join_kept : (words : List ℕ) (views : List SeatView) (r : IsSharedLog C B words views) (id : ℕ) (v : SeatView) → get_elem? views id ≡ some v → v.live ≡ true → v.number ≡ 0
       → (other : ℕ) (u : SeatView) → other ≢ id → get_elem? (set views id (with_joined_log v u)) other ≡ some u → u.live ≡ true → u.number ≡ length v.joined + 1
       → IsSharedLog C B words (set (set views id (with_joined_log v u)) other spent_view)
-  joins words views r id v at live is_first other u not at' live' next =
+  join_kept words views r id v at live is_first other u not at' live' next =
       let q = r.seated id v at live in
       let there : get_elem? views other ≡ some u = sym (set_else views id other (with_joined_log v u) not) ∙ at' in
       let p = r.seated other u there live' in
