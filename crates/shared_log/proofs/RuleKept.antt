@@ -31,8 +31,8 @@ module _ (C B : ℕ) where
   number_made words views r c id is = made_above words views r c id is (dec_le r.made c)
 
   -- what a live view knows
-  pub knows_of : (words : List ℕ) (views : List SeatView) (r : IsSharedLog C B words views) (id : ℕ) (v : SeatView) → get_elem? views id ≡ some v → v.live ≡ true → IsSeatView v
-  knows_of words views r id v at live =
+  pub view_kept : (words : List ℕ) (views : List SeatView) (r : IsSharedLog C B words views) (id : ℕ) (v : SeatView) → get_elem? views id ≡ some v → v.live ≡ true → IsSeatView v
+  view_kept words views r id v at live =
       let q = r.seated id v at live in
       let n = number_made words views r v.number id q.seat_is in
       let few = r.few in
@@ -67,7 +67,7 @@ module _ (C B : ℕ) where
     unmade = r.unmade;
     done = r.done;
     seated = λ j u at live. ⊎_elim
-        (λ e. let P : ℕ × SeatView → Type 0 = λ z. IsCallerSeat C B r.log r.seat r.made r.joined z.0 z.1 in subst P (λ i. (sym e.0 i, e.1 i)) (q (ap (λ (x : SeatView). x.live) e.1 ∙ live)))
+        (λ e. let P : ℕ × SeatView → Type 0 = λ z. IsCallerSeat C B r.log r.seat r.made r.joined z.0 z.1 in subst P {x = (id, v)} {y = (j, u)} (λ i. (sym e.0 i, e.1 i)) (q (ap (λ (x : SeatView). x.live) e.1 ∙ live)))
         (λ e. r.seated j u e.1 live)
         (at_set views id j v u at);
   }
@@ -84,7 +84,7 @@ module _ (C B : ℕ) where
       let same : r.log ≡ v.log = q.has.begins ∙ ap (λ (l : List ℕ). v.log ++ l) over ∙ append-nil v.log in
       let size : v.callers * v.budget ≡ C * B = ap (λ (k : ℕ). k * v.budget) q.callers_is ∙ ap (λ (k : ℕ). C * k) q.budget_is in
       let bud = q.budget_is in
-      let room : length v.log < C * B = let h = knows_of words views r id v at live in let m = room_of v h v.number h.number (omega arith) in omega arith in
+      let room : length v.log < C * B = let h = view_kept words views r id v at live in let m = room_of v h v.number h.number (omega arith) in omega arith in
       let long : length r.log ≡ length v.log = ap length same in
       let f : ℕ = r.free - 1 in
       let one : r.free ≡ suc f = let t = r.total in omega arith in
@@ -107,7 +107,7 @@ module _ (C B : ℕ) where
         unmade = λ c h. let u = r.unmade c h in (words-snoc-other c r.log w (λ e. omega arith) ∙ u.0, u.1);
         done = λ c l at'. let d = r.done c l at' in (d.0, d.1, has-more (suc c) r.log l w d.2 (λ e. some-ne-none id (sym q.seat_is ∙ ap r.seat (sym mine ∙ e) ∙ d.1)));
         seated = λ j u at' live'. ⊎_elim
-            (λ e. let P : ℕ × SeatView → Type 0 = λ z. IsCallerSeat C B (r.log ++ w ∷ []) r.seat r.made r.joined z.0 z.1 in subst P (λ i. (sym e.0 i, e.1 i)) record {
+            (λ e. let P : ℕ × SeatView → Type 0 = λ z. IsCallerSeat C B (r.log ++ w ∷ []) r.seat r.made r.joined z.0 z.1 in subst P {x = (id, with_word v w)} {y = (j, u)} (λ i. (sym e.0 i, e.1 i)) record {
               callers_is = q.callers_is;
               budget_is = q.budget_is;
               seat_is = q.seat_is;
@@ -152,9 +152,9 @@ module _ (C B : ℕ) where
   seat_more-here : (seat : ℕ → Option ℕ) (c n : ℕ) → seat_more seat c n c ≡ some n
   seat_more-here seat c n = ap (λ (t : Bool). cond t (some n) (seat c)) (eq-eqb c c refl)
 
-  pub splits : (words : List ℕ) (views : List SeatView) (r : IsSharedLog C B words views) (id : ℕ) (v : SeatView) → get_elem? views id ≡ some v → v.live ≡ true → v.number ≡ 0 → v.made < C
+  pub split_kept : (words : List ℕ) (views : List SeatView) (r : IsSharedLog C B words views) (id : ℕ) (v : SeatView) → get_elem? views id ≡ some v → v.live ≡ true → v.number ≡ 0 → v.made < C
       → IsSharedLog C B words (set views id (with_caller v) ++ new_caller v ∷ [])
-  splits words views r id v at live is_first few =
+  split_kept words views r id v at live is_first few =
       let q = r.seated id v at live in
       let below = number_made words views r v.number id q.seat_is in
       let made : v.made ≡ r.made = (q.first is_first).0 in
@@ -175,7 +175,7 @@ module _ (C B : ℕ) where
         done = λ c l at'. let d = r.done c l at' in let lt = d.0 in (omega arith, seat_more-same r.seat r.made n (suc c) (λ e. omega arith) ∙ d.1, d.2);
         seated = λ j u at' live'. ⊎_elim
             (λ old. ⊎_elim
-            (λ e. let P : ℕ × SeatView → Type 0 = λ z. IsCallerSeat C B r.log seat' (r.made + 1) r.joined z.0 z.1 in subst P (λ i. (sym e.0 i, e.1 i)) record {
+            (λ e. let P : ℕ × SeatView → Type 0 = λ z. IsCallerSeat C B r.log seat' (r.made + 1) r.joined z.0 z.1 in subst P {x = (id, with_caller v)} {y = (j, u)} (λ i. (sym e.0 i, e.1 i)) record {
               callers_is = q.callers_is;
               budget_is = q.budget_is;
               has = q.has;
@@ -190,7 +190,7 @@ module _ (C B : ℕ) where
               first = λ z. absurd (apart words views r id j v u q p e.0 (z ∙ sym is_first));
             })
             (at_set views id j (with_caller v) u old))
-            (λ e. let P : ℕ × SeatView → Type 0 = λ z. IsCallerSeat C B r.log seat' (r.made + 1) r.joined z.0 z.1 in subst P (λ i. (sym e.0 i, e.1 i)) record {
+            (λ e. let P : ℕ × SeatView → Type 0 = λ z. IsCallerSeat C B r.log seat' (r.made + 1) r.joined z.0 z.1 in subst P {x = (n, new_caller v)} {y = (j, u)} (λ i. (sym e.0 i, e.1 i)) record {
               callers_is = q.callers_is;
               budget_is = q.budget_is;
               seat_is = ap seat' made ∙ seat_more-here r.seat r.made n;
@@ -217,10 +217,10 @@ module _ (C B : ℕ) where
   seat_less-here : (seat : ℕ → Option ℕ) (c : ℕ) → seat_less seat c c ≡ none
   seat_less-here seat c = ap (λ (t : Bool). cond t none (seat c)) (eq-eqb c c refl)
 
-  pub joins : (words : List ℕ) (views : List SeatView) (r : IsSharedLog C B words views) (id : ℕ) (v : SeatView) → get_elem? views id ≡ some v → v.live ≡ true → v.number ≡ 0
+  pub join_kept : (words : List ℕ) (views : List SeatView) (r : IsSharedLog C B words views) (id : ℕ) (v : SeatView) → get_elem? views id ≡ some v → v.live ≡ true → v.number ≡ 0
       → (other : ℕ) (u : SeatView) → other ≢ id → get_elem? (set views id (with_joined_log v u)) other ≡ some u → u.live ≡ true → u.number ≡ length v.joined + 1
       → IsSharedLog C B words (set (set views id (with_joined_log v u)) other spent_view)
-  joins words views r id v at live is_first other u not at' live' next =
+  join_kept words views r id v at live is_first other u not at' live' next =
       let q = r.seated id v at live in
       let there : get_elem? views other ≡ some u = sym (set_else views id other (with_joined_log v u) not) ∙ at' in
       let p = r.seated other u there live' in
@@ -244,12 +244,12 @@ module _ (C B : ℕ) where
             (λ old. let d = r.done c l old in (d.0, seat_less-none r.seat u.number (suc c) d.1, d.2))
             (λ e. let is : u.number ≡ suc c = let x = e.0 in omega arith in
             let P : ℕ × List ℕ → Type 0 = λ z. (z.0 < r.made) × (seat' z.0 ≡ none) × BeginsWithLog z.0 r.log z.1 in
-            subst P (λ i. (is i, e.1 i)) (number_made words views r u.number other p.seat_is, seat_less-here r.seat u.number, p.has))
+            subst P {x = (u.number, u.log)} {y = (suc c, l)} (λ i. (is i, e.1 i)) (number_made words views r u.number other p.seat_is, seat_less-here r.seat u.number, p.has))
             (at_end r.joined (u.log) l c ent);
         seated = λ j w ent live''. ⊎_elim
             (λ e. absurd (let f : false ≡ true = ap (λ (x : SeatView). x.live) e.1 ∙ live'' in cc))
             (λ t. ⊎_elim
-            (λ e. let P : ℕ × SeatView → Type 0 = λ z. IsCallerSeat C B r.log seat' r.made joined' z.0 z.1 in subst P (λ i. (sym e.0 i, e.1 i)) record {
+            (λ e. let P : ℕ × SeatView → Type 0 = λ z. IsCallerSeat C B r.log seat' r.made joined' z.0 z.1 in subst P {x = (id, with_joined_log v u)} {y = (j, w)} (λ i. (sym e.0 i, e.1 i)) record {
               callers_is = q.callers_is;
               budget_is = q.budget_is;
               has = q.has;
