@@ -32,6 +32,13 @@ abbrev pub Answers : Result ScriptOf ScriptError → Result ScriptOf ScriptError
 Answers (Ok script) reading = reading ≡ Ok script
 Answers (Err error) reading = Refuses error reading
 
+-- what the lines give is this, unless memory runs out
+abbrev pub Reads : Result ScriptOf ScriptError → Result ScriptOf Bad → Type 0
+Reads (Ok script) read = read ≡ Ok script
+Reads (Err (BadLine line code)) read = read ≡ Err (record { line = line; code = code })
+Reads (Err (TooManyEvents need have)) read = ⊥
+Reads (Err NoMemory) read = Unit {0}
+
 -- why a line refuses the script
 abbrev pub refusal_of : ℕ → StepError → ScriptError
 refusal_of line (step.Code code) = BadLine line code

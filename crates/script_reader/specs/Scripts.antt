@@ -1,5 +1,5 @@
 -- The script that bytes stand for, or the first bad line and its code.
-use Rattle.std.specs.Prelude.{ℕ, ◌+◌, ◌*◌, ◌≤◌, ◌<◌, max, nat_le, if◌then◌else◌, List, [], ◌∷◌, length, Ok, Err}
+use Rattle.std.specs.Prelude.{ℕ, ◌+◌, ◌*◌, ◌≤◌, max, List, [], ◌∷◌, length, Ok, Err}
 use Rattle.std.specs.declared.result.Result.{Result}
 use Rattle.std.specs.List.{AllByRecursion}
 use Rattle.event_words.specs.declared.shape.Shape.{Shape}
@@ -54,15 +54,13 @@ need_of script = (length script.lanes + 1) * most_from (max 1 (events_of script.
 
 -- ---- what every script has
 
--- a valid section that names only units that are there
-pub record IsGoodSection (units : ℕ) (section : SectionOf) : Type 0 where
-  pub valid : IsValidSection section
-  pub units_there : NamesOnlyUnits units section
-
+-- One to four units, at most 16 lanes, and valid sections that name only units that are there.
 pub record IsWellFormedScript (script : ScriptOf) : Type 0 where
   pub some_units : 1 ≤ length script.shapes
   pub few_units : length script.shapes ≤ 4
   pub shapes : AllByRecursion IsValidShape script.shapes
   pub few_lanes : length script.lanes ≤ 16
-  pub boot : IsGoodSection (length script.shapes) script.boot
-  pub lanes : AllByRecursion (IsGoodSection (length script.shapes)) script.lanes
+  pub boot : IsValidSection script.boot
+  pub boot_units : NamesOnlyUnits (length script.shapes) script.boot
+  pub lanes : AllByRecursion IsValidSection script.lanes
+  pub lanes_units : AllByRecursion (NamesOnlyUnits (length script.shapes)) script.lanes

@@ -15,4 +15,4 @@ mod text;
 mod unit_line;
 mod words;
 
-pub use script::{Script, ScriptError};
+pub use script::{Script, ScriptError, read_script};

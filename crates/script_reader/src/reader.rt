@@ -144,7 +144,7 @@ impl<'a> Reader<'a> {
 
     /// The open section is whole, and another stands in its place.
     fn close(self, alloc: Global, next: Place) -> Result<Reader<'a>, StepError>
-        requires { length self.section.names < 2 ^ 32 }
+        requires { length self.section.commands < 4194304 }
         ensures { Gives result (Ok (record (spec.closed self.entry.place self.entry) { place = next })) }
     {
         let Reader {
@@ -170,7 +170,7 @@ impl<'a> Reader<'a> {
 
     #[tactic(auto, unfolding(crate::specs::Lines::end_step))]
     fn end_line(self, alloc: Global, words: &Words<'a>) -> Result<Reader<'a>, StepError>
-        requires { length self.section.names < 2 ^ 32 }
+        requires { length self.section.commands < 4194304 }
         ensures { Gives result (spec.end_step self.entry words.now) }
     {
         if words.len() != 1 {
@@ -181,7 +181,7 @@ impl<'a> Reader<'a> {
 
     #[tactic(auto, unfolding(crate::specs::Lines::lane_step))]
     fn lane_line(self, alloc: Global, words: &Words<'a>) -> Result<Reader<'a>, StepError>
-        requires { length self.section.names < 2 ^ 32 }
+        requires { length self.section.commands < 4194304 }
         ensures { Gives result (spec.lane_step self.entry words.now) }
     {
         let next = self.next_lane();
@@ -197,7 +197,7 @@ impl<'a> Reader<'a> {
 
     #[tactic(auto, unfolding(crate::specs::Lines::submit_step))]
     fn submit_line(self, words: &Words<'a>) -> Result<Reader<'a>, StepError>
-        requires { length self.section.names < 2 ^ 32 }
+        requires { length self.section.commands < 4194304 }
         ensures { Gives result (spec.submit_step self.entry words.now) }
     {
         let Reader {
@@ -256,7 +256,7 @@ impl<'a> Reader<'a> {
 
     #[tactic(auto, unfolding(crate::specs::Lines::section_step))]
     fn section_line(self, alloc: Global, words: &Words<'a>) -> Result<Reader<'a>, StepError>
-        requires { length self.section.names < 2 ^ 32 }
+        requires { length self.section.commands < 4194304 }
         ensures { Gives result (spec.section_step self.entry words.now) }
     {
         if words.is_word(0, b"lane") {
@@ -271,7 +271,7 @@ impl<'a> Reader<'a> {
     }
 
     fn placed_line(self, alloc: Global, words: &Words<'a>) -> Result<Reader<'a>, StepError>
-        requires { length self.section.names < 2 ^ 32 }
+        requires { length self.section.commands < 4194304 }
         ensures { Gives result (spec.place_step self.entry.place self.entry words.now) }
     {
         match self.place {
@@ -284,7 +284,7 @@ impl<'a> Reader<'a> {
 
     #[tactic(auto, unfolding(crate::specs::Lines::words_step))]
     fn words_line(self, alloc: Global, words: &Words<'a>) -> Result<Reader<'a>, StepError>
-        requires { length self.section.names < 2 ^ 32 }
+        requires { length self.section.commands < 4194304 }
         ensures { Gives result (spec.words_step self.entry words.now) }
     {
         if is_skipped(words) {
@@ -300,7 +300,7 @@ impl<'a> Reader<'a> {
     /// The state after one more line.
     #[tactic(auto, unfolding(crate::specs::Lines::line_step))]
     pub fn line(self, alloc: Global, line: &'a [u8]) -> Result<Reader<'a>, StepError>
-        requires { length self.section.names < 2 ^ 32 }
+        requires { length self.section.commands < 4194304 }
         ensures { Gives result (spec.line_step self.entry line.entry.now) }
     {
         if !text::is_plain_line(line) {
