@@ -1,3 +1,6 @@
 pub mod LineSteps
+pub mod Needs
 pub mod Numerals
 pub mod Slots
+pub mod Sounds
+pub mod Rows

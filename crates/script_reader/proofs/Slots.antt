@@ -1,5 +1,5 @@
 -- The slots of names with one name more.
-use Rattle.std.proofs.Common.{◌≡◌, ℕ, ◌+◌, ◌<◌, ◌≤◌, Bool, true, false, List, [], ◌∷◌, ◌++◌, None, Some, Option, length, map, cond, nat_lt, position, is_some, refl, ap, sym, subst, ◌∙◌, inl, inr, ◌⊎◌, arith, length-append}
+use Rattle.std.proofs.Common.{◌≡◌, ℕ, ◌+◌, ◌<◌, ◌≤◌, Bool, true, false, List, [], ◌∷◌, ◌++◌, None, Some, Option, length, map, cond, nat_lt, position, is_some, IfSome, refl, ap, sym, subst, ◌∙◌, inl, inr, ◌⊎◌, arith, length-append}
 use lib.Dec.{eqb}
 use denote.Ref.{Bor}
 use Rattle.std.proofs.lemmas.Bool.{cases_Bool}
@@ -7,6 +7,7 @@ use Rattle.std.proofs.lemmas.List.{length-map, map-append}
 use Rattle.std.proofs.lemmas.Bool.Decides.{nat_tests}
 use Rattle.std.proofs.lemmas.List.Folds.{position_or_len_push}
 use Rattle.std.proofs.lemmas.List.Sums.{prefix_len-le-length}
+use Rattle.std.proofs.lemmas.List.Quantifiers.{position-Some}
 use Rattle.std.proofs.lemmas.Slice.Eq.{bytes_eq-Decides}
 use Rattle.std.specs.Bool.{Decides}
 use Rattle.std.specs.List.{position_or_len}
@@ -58,3 +59,11 @@ slots_more words more w q slot count absent e =
     ∙ slot_more names w.now q (is_none (slot_of names w.now) absent)
     ∙ ap (λ l. slot_of l q) (sym (map-append (λ (x : Bor (List ℕ)). x.now) words (w ∷ [])))
     ∙ ap (λ l. slot_of (map (λ (x : Bor (List ℕ)). x.now) l) q) (sym e)
+
+-- a slot is below the number of names
+slot_below : (names : List (List ℕ)) (w : List ℕ) (slot : ℕ) → slot_of names w ≡ Some slot → slot < length names
+slot_below names w slot e = (position-Some (bytes_eq w) names slot [] e).0
+
+pub slot_in : (names : List (List ℕ)) (w : List ℕ) (o : Option ℕ) → o ≡ slot_of names w → IfSome o (λ slot. slot < length names)
+slot_in names w None e = tt
+slot_in names w (Some slot) e = slot_below names w slot (sym e)

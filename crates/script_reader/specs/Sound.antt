@@ -2,11 +2,17 @@
 use Rattle.std.specs.Prelude.{◌≡◌, ℕ, ◌≤◌, List, [], length, count_by}
 use Rattle.std.specs.List.{AllByRecursion}
 use Rattle.event_words.specs.declared.section.Command.{Command}
+use Rattle.event_words.specs.declared.section.Stages.{Stages}
 use Rattle.event_words.specs.Valid.{IsValidShape}
-use Rattle.event_words.specs.Sections.{IsValidSection, IsValidCommand, AreValidCommands, NamesUnits, NamesOnlyUnits, is_submit}
+use Rattle.event_words.specs.Sections.{IsValidSection, IsValidStages, IsValidCommand, AreValidCommands, NamesUnits, NamesOnlyUnits, IsBelow, stage_units, is_submit}
 use Rattle.script_reader.specs.declared.reader.Place.{Place}
 use Rattle.script_reader.specs.declared.reader.Place.TheVariants.{Head, Units, Boot, Lane, Finished}
-use Rattle.script_reader.specs.Lines.{State, OpenSection, new_section, no_commands}
+use Rattle.script_reader.specs.Lines.{State, OpenSection, new_section, no_commands, next_lane}
+
+-- stages through units that are there
+pub record IsGoodStages (units : ℕ) (stages : Stages) : Type 0 where
+  pub valid : IsValidStages stages
+  pub there : AllByRecursion (IsBelow units) (stage_units stages)
 
 -- a command that may stand after so many submissions where there are so many units
 pub record IsGoodCommand (units slots : ℕ) (command : Command) : Type 0 where
@@ -45,3 +51,17 @@ pub record IsSound (s : State) : Type 0 where
   pub lanes_units : AllByRecursion (NamesOnlyUnits (length s.shapes)) s.lanes
   pub section : IsSoundSection (length s.shapes) s.section
   pub place : FitsPlace s.place s
+
+-- ---- where a line may stand
+
+-- a section is open
+abbrev pub IsInSection : Place → Type 0
+IsInSection Boot = Unit {0}
+IsInSection Lane = Unit {0}
+IsInSection _ = ⊥
+
+-- the place after the end of a section
+abbrev pub MayFollow : Place → State → Type 0
+MayFollow Lane s = next_lane s.place s.lanes ≤ 16
+MayFollow Finished s = Unit {0}
+MayFollow _ s = ⊥

@@ -1,5 +1,8 @@
 // The commands that lines write.
-ghost use Rattle.std.specs.Prelude.{◌≡◌, ◌<◌, ◌≤◌, ◌^◌, length, IfOk};
+ghost use Rattle.std.specs.Prelude.{◌≡◌, ◌<◌, ◌≤◌, ◌^◌, ℕ, true, false, length, IfOk};
+ghost use Rattle.event_words.specs.Valid.{IsValidAccess};
+ghost use Rattle.event_words.specs.Sections.{IsMax, is_submit};
+ghost use Rattle.script_reader.specs.Sound.{IsGoodStages, IsGoodCommand};
 ghost use Rattle.script_reader.specs.Commands.{unit_at, index_at, value_at, max_at, kind_at, access_at, stage_at, stages_at, write_at, read_at, submit_at, judge_at, settle_at, until_at, through_at, command_at};
 
 use crate::name::Names;
@@ -10,7 +13,8 @@ use event_words::{Access, Command, Kind, Stages};
 
 #[tactic(auto, unfolding(crate::specs::Commands::unit_at))]
 fn unit(units: u8, word: &[u8]) -> Result<u8, u8>
-    ensures { result ≡ unit_at units word.now }
+    ensures value { result ≡ unit_at units word.now }
+    ensures there { IfOk result (λ unit. unit < units) }
 {
     let n = number(word)?;
     if n >= u64::from(units) {
@@ -21,7 +25,8 @@ fn unit(units: u8, word: &[u8]) -> Result<u8, u8>
 
 #[tactic(auto, unfolding(crate::specs::Commands::index_at))]
 fn index(word: &[u8]) -> Result<u32, u8>
-    ensures { result ≡ index_at word.now }
+    ensures value { result ≡ index_at word.now }
+    ensures below { IfOk result (λ index. index < 2 ^ 22) }
 {
     let offset = number_within(word, 0, 0xffffff)?;
     if offset % 4 != 0 {
@@ -31,14 +36,16 @@ fn index(word: &[u8]) -> Result<u32, u8>
 }
 
 fn value(word: &[u8]) -> Result<u32, u8>
-    ensures { result ≡ value_at word.now }
+    ensures value { result ≡ value_at word.now }
+    ensures below { IfOk result (λ n. n < 2 ^ 32) }
 {
     let n = number_within(word, 0, 0xffffffff)?;
     Ok(n as u32)
 }
 
 fn max(word: &[u8]) -> Result<u32, u8>
-    ensures { result ≡ max_at word.now }
+    ensures value { result ≡ max_at word.now }
+    ensures within { IfOk result (λ max. IsMax max) }
 {
     let n = number_within(word, 1, 4096)?;
     Ok(n as u32)
@@ -63,7 +70,8 @@ fn kind(word: &[u8]) -> Result<Kind, u8>
 #[tactic(auto, unfolding(crate::specs::Commands::access_at))]
 fn access(words: &Words<'_>, i: usize) -> Result<Access, u8>
     requires { i < 2 ^ 32 }
-    ensures { result ≡ access_at words.now i }
+    ensures value { result ≡ access_at words.now i }
+    ensures valid { IfOk result (λ access. IsValidAccess access) }
 {
     let rrid = number_within(words.word(i), 0, 63)?;
     let kind = kind(words.word(i + 1))?;
@@ -82,8 +90,10 @@ fn access(words: &Words<'_>, i: usize) -> Result<Access, u8>
 
 #[tactic(auto, unfolding(crate::specs::Commands::stage_at))]
 fn stage(units: u8, words: &Words<'_>, count: usize, i: usize) -> Result<u8, u8>
-    requires { i < 2 ^ 32 }
-    ensures { result ≡ stage_at units words.now count i }
+    requires i { i < 2 ^ 32 }
+    requires some { 1 ≤ units }
+    ensures value { result ≡ stage_at units words.now count i }
+    ensures there { IfOk result (λ unit. unit < units) }
 {
     if i < count {
         unit(units, words.word(i + 1))
@@ -94,8 +104,12 @@ fn stage(units: u8, words: &Words<'_>, count: usize, i: usize) -> Result<u8, u8>
 
 #[tactic(auto, unfolding(crate::specs::Commands::stages_at))]
 fn stages(units: u8, words: &Words<'_>, count: usize) -> Result<Stages, u8>
-    requires { count ≤ 4 }
-    ensures { result ≡ stages_at units words.now count }
+    requires some { 1 ≤ units }
+    requires few { units ≤ 4 }
+    requires one { 1 ≤ count }
+    requires four { count ≤ 4 }
+    ensures value { result ≡ stages_at units words.now count }
+    ensures good { IfOk result (λ stages. IsGoodStages units stages) }
 {
     let first = stage(units, words, count, 0)?;
     let second = stage(units, words, count, 1)?;
@@ -109,7 +123,11 @@ fn stages(units: u8, words: &Words<'_>, count: usize) -> Result<Stages, u8>
 
 #[tactic(auto, unfolding(crate::specs::Commands::write_at))]
 fn write(units: u8, words: &Words<'_>) -> Result<Command, u8>
-    ensures { result ≡ write_at units words.now }
+    requires some { 1 ≤ units }
+    requires few { units ≤ 4 }
+    ensures value { result ≡ write_at units words.now }
+    ensures good { IfOk result (λ command. (slots : ℕ) → IsGoodCommand units slots command) }
+    ensures other { IfOk result (λ command. is_submit command ≡ false) }
 {
     if words.len() != 4 {
         return Err(MISSHAPEN);
@@ -122,7 +140,11 @@ fn write(units: u8, words: &Words<'_>) -> Result<Command, u8>
 
 #[tactic(auto, unfolding(crate::specs::Commands::read_at))]
 fn read(units: u8, words: &Words<'_>) -> Result<Command, u8>
-    ensures { result ≡ read_at units words.now }
+    requires some { 1 ≤ units }
+    requires few { units ≤ 4 }
+    ensures value { result ≡ read_at units words.now }
+    ensures good { IfOk result (λ command. (slots : ℕ) → IsGoodCommand units slots command) }
+    ensures other { IfOk result (λ command. is_submit command ≡ false) }
 {
     if words.len() != 3 {
         return Err(MISSHAPEN);
@@ -135,7 +157,11 @@ fn read(units: u8, words: &Words<'_>) -> Result<Command, u8>
 /// The submission of a line `t`, at a slot. Its name isn't read.
 #[tactic(auto, unfolding(crate::specs::Commands::submit_at))]
 pub fn submit(units: u8, slot: u32, words: &Words<'_>) -> Result<Command, u8>
-    ensures { result ≡ submit_at units slot words.now }
+    requires some { 1 ≤ units }
+    requires few { units ≤ 4 }
+    ensures value { result ≡ submit_at units slot words.now }
+    ensures good { IfOk result (λ command. IsGoodCommand units slot command) }
+    ensures submits { IfOk result (λ command. is_submit command ≡ true) }
 {
     if words.len() != 8 || !words.is_word(6, b"as") {
         return Err(MISSHAPEN);
@@ -147,7 +173,9 @@ pub fn submit(units: u8, slot: u32, words: &Words<'_>) -> Result<Command, u8>
 
 #[tactic(auto, unfolding(crate::specs::Commands::judge_at))]
 fn judge(names: &Names<'_>, words: &Words<'_>) -> Result<Command, u8>
-    ensures { result ≡ judge_at names.now words.now }
+    ensures value { result ≡ judge_at names.now words.now }
+    ensures good { IfOk result (λ command. (units : ℕ) → IsGoodCommand units (length names.now) command) }
+    ensures other { IfOk result (λ command. is_submit command ≡ false) }
 {
     if words.len() != 2 {
         return Err(MISSHAPEN);
@@ -158,7 +186,9 @@ fn judge(names: &Names<'_>, words: &Words<'_>) -> Result<Command, u8>
 
 #[tactic(auto, unfolding(crate::specs::Commands::settle_at))]
 fn settle(names: &Names<'_>, words: &Words<'_>) -> Result<Command, u8>
-    ensures { result ≡ settle_at names.now words.now }
+    ensures value { result ≡ settle_at names.now words.now }
+    ensures good { IfOk result (λ command. (units : ℕ) → IsGoodCommand units (length names.now) command) }
+    ensures other { IfOk result (λ command. is_submit command ≡ false) }
 {
     if words.len() != 4 || !words.is_word(2, b"max") {
         return Err(MISSHAPEN);
@@ -170,7 +200,11 @@ fn settle(names: &Names<'_>, words: &Words<'_>) -> Result<Command, u8>
 
 #[tactic(auto, unfolding(crate::specs::Commands::until_at))]
 fn until(units: u8, words: &Words<'_>) -> Result<Command, u8>
-    ensures { result ≡ until_at units words.now }
+    requires some { 1 ≤ units }
+    requires few { units ≤ 4 }
+    ensures value { result ≡ until_at units words.now }
+    ensures good { IfOk result (λ command. (slots : ℕ) → IsGoodCommand units slots command) }
+    ensures other { IfOk result (λ command. is_submit command ≡ false) }
 {
     if words.len() != 7 || !words.is_word(5, b"max") {
         return Err(MISSHAPEN);
@@ -191,7 +225,11 @@ fn until(units: u8, words: &Words<'_>) -> Result<Command, u8>
 
 #[tactic(auto, unfolding(crate::specs::Commands::through_at))]
 fn through(units: u8, words: &Words<'_>) -> Result<Command, u8>
-    ensures { result ≡ through_at units words.now }
+    requires some { 1 ≤ units }
+    requires few { units ≤ 4 }
+    ensures value { result ≡ through_at units words.now }
+    ensures good { IfOk result (λ command. (slots : ℕ) → IsGoodCommand units slots command) }
+    ensures other { IfOk result (λ command. is_submit command ≡ false) }
 {
     let count = words.len();
     if count < 8 || 11 < count || !words.is_word(count - 2, b"max") {
@@ -210,7 +248,11 @@ fn through(units: u8, words: &Words<'_>) -> Result<Command, u8>
 /// The command of a line other than a submission.
 #[tactic(auto, unfolding(crate::specs::Commands::command_at))]
 pub fn command(units: u8, names: &Names<'_>, words: &Words<'_>) -> Result<Command, u8>
-    ensures { result ≡ command_at units names.now words.now }
+    requires some { 1 ≤ units }
+    requires few { units ≤ 4 }
+    ensures value { result ≡ command_at units names.now words.now }
+    ensures good { IfOk result (λ command. IsGoodCommand units (length names.now) command) }
+    ensures other { IfOk result (λ command. is_submit command ≡ false) }
 {
     if words.is_word(0, b"w") {
         write(units, words)

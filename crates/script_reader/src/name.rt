@@ -1,5 +1,5 @@
 // Names of submissions.
-ghost use Rattle.std.specs.Prelude.{◌≡◌, ◌<◌, ◌^◌, length};
+ghost use Rattle.std.specs.Prelude.{◌≡◌, ◌+◌, ◌<◌, ◌^◌, length, IfOk, IfSome};
 ghost use Rattle.std.specs.List.{list_all};
 ghost use Rattle.script_reader.specs.Names.{is_letter, is_letter_or_digit, is_name, slot_of, slot_at, with_name};
 ghost use Rattle.script_reader.specs.Steps.{Gives};
@@ -75,7 +75,8 @@ impl<'a> Names<'a> {
     }
 
     fn slot(&self, word: &[u8]) -> Option<u32>
-        ensures { result ≡ slot_of self.now word.now }
+        ensures value { result ≡ slot_of self.now word.now }
+        ensures below { IfSome result (λ slot. slot < length self.now) }
     {
         self.slots.get(&word).copied()
     }
@@ -83,7 +84,8 @@ impl<'a> Names<'a> {
     /// The slot of a name that a submission before has.
     #[tactic(auto, unfolding(crate::specs::Names::slot_at))]
     pub fn slot_at(&self, word: &[u8]) -> Result<u32, u8>
-        ensures { result ≡ slot_at self.now word.now }
+        ensures value { result ≡ slot_at self.now word.now }
+        ensures below { IfOk result (λ slot. slot < length self.now) }
     {
         if !is_name(word) {
             return Err(NOT_A_NAME);
@@ -98,7 +100,8 @@ impl<'a> Names<'a> {
     #[tactic(auto, unfolding(crate::specs::Names::with_name))]
     pub fn with(self, word: &'a [u8]) -> Result<Names<'a>, StepError>
         requires { length self < 2 ^ 32 }
-        ensures { Gives result (with_name self.entry word.entry.now) }
+        ensures value { Gives result (with_name self.entry word.entry.now) }
+        ensures more { IfOk result (λ names. length names ≡ length self.entry + 1) }
     {
         if !is_name(word) {
             return Err(StepError::Code(NOT_A_NAME));

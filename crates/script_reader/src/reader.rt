@@ -1,5 +1,5 @@
 // Reads a script line by line.
-ghost use Rattle.std.specs.Prelude.{◌≡◌, ◌<◌, ◌≤◌, ◌^◌, length};
+ghost use Rattle.std.specs.Prelude.{◌≡◌, ◌+◌, ◌<◌, ◌≤◌, length, IfOk};
 ghost use Rattle.script_reader.specs.Lines as spec;
 ghost use Rattle.script_reader.specs.Numbers.{number_at};
 
@@ -82,6 +82,7 @@ fn is_skipped(words: &Words<'_>) -> bool
 impl<'a> Reader<'a> {
     ghost use Rattle.script_reader.specs.Lines.{State, start};
     ghost use Rattle.script_reader.specs.Steps.{Gives};
+    ghost use Rattle.script_reader.specs.Sound.{IsInSection, MayFollow};
 
     /// Before the first line.
     pub fn new(alloc: Global) -> Reader<'a>
@@ -102,7 +103,9 @@ impl<'a> Reader<'a> {
 
     #[tactic(auto, unfolding(crate::specs::Lines::head_step))]
     fn head_line(mut self, words: &Words<'a>) -> Result<Reader<'a>, StepError>
-        ensures { Gives result (spec.head_step self.entry words.now) }
+        requires { self.place ≡ Place.Head }
+        ensures value { Gives result (spec.head_step self.entry words.now) }
+        ensures grown { IfOk result (λ r. length r.section.commands ≤ length self.entry.section.commands + 1) }
     {
         if !is_head(words) {
             return Err(StepError::Code(NO_HEAD));
@@ -113,8 +116,10 @@ impl<'a> Reader<'a> {
 
     #[tactic(auto, unfolding(crate::specs::Lines::unit_step))]
     fn unit_line(mut self, words: &Words<'a>) -> Result<Reader<'a>, StepError>
-        requires { length self.shapes < 4 }
-        ensures { Gives result (spec.unit_step self.entry words.now) }
+        requires place { self.place ≡ Place.Units }
+        requires few { length self.shapes < 4 }
+        ensures value { Gives result (spec.unit_step self.entry words.now) }
+        ensures grown { IfOk result (λ r. length r.section.commands ≤ length self.entry.section.commands + 1) }
     {
         let shape = unit_shape(words)?;
         self.shapes.push(shape)?;
@@ -123,7 +128,10 @@ impl<'a> Reader<'a> {
 
     #[tactic(auto, unfolding(crate::specs::Lines::boot_step))]
     fn boot_line(mut self, words: &Words<'a>) -> Result<Reader<'a>, StepError>
-        ensures { Gives result (spec.boot_step self.entry words.now) }
+        requires place { self.place ≡ Place.Units }
+        requires some { 1 ≤ length self.shapes }
+        ensures value { Gives result (spec.boot_step self.entry words.now) }
+        ensures grown { IfOk result (λ r. length r.section.commands ≤ length self.entry.section.commands + 1) }
     {
         if words.len() != 1 {
             return Err(StepError::Code(MISSHAPEN));
@@ -144,34 +152,48 @@ impl<'a> Reader<'a> {
 
     /// The open section is whole, and another stands in its place.
     fn close(self, alloc: Global, next: Place) -> Result<Reader<'a>, StepError>
-        requires { length self.section.commands < 4194304 }
-        ensures { Gives result (Ok (record (spec.closed self.entry.place self.entry) { place = next })) }
+        requires in_section { IsInSection self.place }
+        requires room { length self.section.commands ≤ 4194304 }
+        requires next { MayFollow next self }
+        ensures value { Gives result (Ok (record (spec.closed self.entry.place self.entry) { place = next })) }
+        ensures grown { IfOk result (λ r. length r.section.commands ≤ length self.entry.section.commands + 1) }
     {
         let Reader {
             place,
             shapes,
-            mut boot,
+            boot,
             mut lanes,
             section,
         } = self;
         let whole = section.close();
+        let section = OpenSection::new(alloc);
         match place {
-            Place::Lane => lanes.push(whole)?,
-            _ => boot = whole,
+            Place::Lane => {
+                lanes.push(whole)?;
+                Ok(Reader {
+                    place: next,
+                    shapes,
+                    boot,
+                    lanes,
+                    section,
+                })
+            }
+            _ => Ok(Reader {
+                place: next,
+                shapes,
+                boot: whole,
+                lanes,
+                section,
+            }),
         }
-        Ok(Reader {
-            place: next,
-            shapes,
-            boot,
-            lanes,
-            section: OpenSection::new(alloc),
-        })
     }
 
     #[tactic(auto, unfolding(crate::specs::Lines::end_step))]
     fn end_line(self, alloc: Global, words: &Words<'a>) -> Result<Reader<'a>, StepError>
-        requires { length self.section.commands < 4194304 }
-        ensures { Gives result (spec.end_step self.entry words.now) }
+        requires in_section { IsInSection self.place }
+        requires room { length self.section.commands < 4194304 }
+        ensures value { Gives result (spec.end_step self.entry words.now) }
+        ensures grown { IfOk result (λ r. length r.section.commands ≤ length self.entry.section.commands + 1) }
     {
         if words.len() != 1 {
             return Err(StepError::Code(MISSHAPEN));
@@ -181,8 +203,10 @@ impl<'a> Reader<'a> {
 
     #[tactic(auto, unfolding(crate::specs::Lines::lane_step))]
     fn lane_line(self, alloc: Global, words: &Words<'a>) -> Result<Reader<'a>, StepError>
-        requires { length self.section.commands < 4194304 }
-        ensures { Gives result (spec.lane_step self.entry words.now) }
+        requires in_section { IsInSection self.place }
+        requires room { length self.section.commands < 4194304 }
+        ensures value { Gives result (spec.lane_step self.entry words.now) }
+        ensures grown { IfOk result (λ r. length r.section.commands ≤ length self.entry.section.commands + 1) }
     {
         let next = self.next_lane();
         if 16 < next || is_other(next, words.word(1)) {
@@ -197,8 +221,10 @@ impl<'a> Reader<'a> {
 
     #[tactic(auto, unfolding(crate::specs::Lines::submit_step))]
     fn submit_line(self, words: &Words<'a>) -> Result<Reader<'a>, StepError>
-        requires { length self.section.commands < 4194304 }
-        ensures { Gives result (spec.submit_step self.entry words.now) }
+        requires in_section { IsInSection self.place }
+        requires room { length self.section.commands < 4194304 }
+        ensures value { Gives result (spec.submit_step self.entry words.now) }
+        ensures grown { IfOk result (λ r. length r.section.commands ≤ length self.entry.section.commands + 1) }
     {
         let Reader {
             place,
@@ -221,7 +247,9 @@ impl<'a> Reader<'a> {
 
     #[tactic(auto, unfolding(crate::specs::Lines::command_step))]
     fn command_line(self, words: &Words<'a>) -> Result<Reader<'a>, StepError>
-        ensures { Gives result (spec.command_step self.entry words.now) }
+        requires { IsInSection self.place }
+        ensures value { Gives result (spec.command_step self.entry words.now) }
+        ensures grown { IfOk result (λ r. length r.section.commands ≤ length self.entry.section.commands + 1) }
     {
         let Reader {
             place,
@@ -243,7 +271,9 @@ impl<'a> Reader<'a> {
 
     #[tactic(auto, unfolding(crate::specs::Lines::units_step))]
     fn units_line(self, words: &Words<'a>) -> Result<Reader<'a>, StepError>
-        ensures { Gives result (spec.units_step self.entry words.now) }
+        requires { self.place ≡ Place.Units }
+        ensures value { Gives result (spec.units_step self.entry words.now) }
+        ensures grown { IfOk result (λ r. length r.section.commands ≤ length self.entry.section.commands + 1) }
     {
         if words.is_word(0, b"unit") && self.shapes.len() < 4 {
             self.unit_line(words)
@@ -256,8 +286,10 @@ impl<'a> Reader<'a> {
 
     #[tactic(auto, unfolding(crate::specs::Lines::section_step))]
     fn section_line(self, alloc: Global, words: &Words<'a>) -> Result<Reader<'a>, StepError>
-        requires { length self.section.commands < 4194304 }
-        ensures { Gives result (spec.section_step self.entry words.now) }
+        requires in_section { IsInSection self.place }
+        requires room { length self.section.commands < 4194304 }
+        ensures value { Gives result (spec.section_step self.entry words.now) }
+        ensures grown { IfOk result (λ r. length r.section.commands ≤ length self.entry.section.commands + 1) }
     {
         if words.is_word(0, b"lane") {
             self.lane_line(alloc, words)
@@ -272,7 +304,8 @@ impl<'a> Reader<'a> {
 
     fn placed_line(self, alloc: Global, words: &Words<'a>) -> Result<Reader<'a>, StepError>
         requires { length self.section.commands < 4194304 }
-        ensures { Gives result (spec.place_step self.entry.place self.entry words.now) }
+        ensures value { Gives result (spec.place_step self.entry.place self.entry words.now) }
+        ensures grown { IfOk result (λ r. length r.section.commands ≤ length self.entry.section.commands + 1) }
     {
         match self.place {
             Place::Head => self.head_line(words),
@@ -285,7 +318,8 @@ impl<'a> Reader<'a> {
     #[tactic(auto, unfolding(crate::specs::Lines::words_step))]
     fn words_line(self, alloc: Global, words: &Words<'a>) -> Result<Reader<'a>, StepError>
         requires { length self.section.commands < 4194304 }
-        ensures { Gives result (spec.words_step self.entry words.now) }
+        ensures value { Gives result (spec.words_step self.entry words.now) }
+        ensures grown { IfOk result (λ r. length r.section.commands ≤ length self.entry.section.commands + 1) }
     {
         if is_skipped(words) {
             return Ok(self);
@@ -301,7 +335,8 @@ impl<'a> Reader<'a> {
     #[tactic(auto, unfolding(crate::specs::Lines::line_step))]
     pub fn line(self, alloc: Global, line: &'a [u8]) -> Result<Reader<'a>, StepError>
         requires { length self.section.commands < 4194304 }
-        ensures { Gives result (spec.line_step self.entry line.entry.now) }
+        ensures value { Gives result (spec.line_step self.entry line.entry.now) }
+        ensures grown { IfOk result (λ r. length r.section.commands ≤ length self.entry.section.commands + 1) }
     {
         if !text::is_plain_line(line) {
             return Err(StepError::Code(NOT_PLAIN));

@@ -1,5 +1,5 @@
 // A section whose commands are being read.
-ghost use Rattle.std.specs.Prelude.{◌≡◌, ◌<◌, ◌≤◌, ◌^◌, ◌++◌, ◌∷◌, [], length};
+ghost use Rattle.std.specs.Prelude.{◌≡◌, ◌+◌, ◌<◌, ◌^◌, ◌++◌, ◌∷◌, [], length, IfOk};
 ghost use Rattle.script_reader.specs.Lines.{new_section, section_of, with_submission, with_command};
 ghost use Rattle.script_reader.specs.Steps.{Gives};
 
@@ -38,7 +38,9 @@ impl<'a> OpenSection<'a> {
     /// With a submission's name and command.
     pub fn submit(self, command: Command, name: &'a [u8]) -> Result<OpenSection<'a>, StepError>
         requires { length self.names < 2 ^ 32 }
-        ensures { Gives result (with_submission self.entry command name.entry.now) }
+        ensures value { Gives result (with_submission self.entry command name.entry.now) }
+        ensures commands { IfOk result (λ s. s.commands ≡ self.entry.commands ++ command ∷ []) }
+        ensures names { IfOk result (λ s. length s.names ≡ length self.entry.names + 1) }
     {
         let OpenSection {
             mut commands,

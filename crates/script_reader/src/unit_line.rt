@@ -1,5 +1,5 @@
 // The shape that a unit line writes.
-ghost use Rattle.std.specs.Prelude.{◌≡◌, IfOk};
+ghost use Rattle.std.specs.Prelude.{◌≡◌, ◌≤◌, IfOk, IfSome};
 ghost use Rattle.event_words.specs.Valid.{IsValidShape};
 ghost use Rattle.script_reader.specs.UnitLines.{has_keys, shape_at, translation_at, unit_line};
 
@@ -27,7 +27,8 @@ fn are_unit_keys(words: &Words<'_>) -> bool
 
 #[tactic(auto, unfolding(crate::specs::UnitLines::translation_at))]
 fn translation(word: &[u8]) -> Result<Option<u8>, u8>
-    ensures { result ≡ translation_at word.now }
+    ensures value { result ≡ translation_at word.now }
+    ensures within { IfOk result (λ t. IfSome t (λ rrid. rrid ≤ 63)) }
 {
     if word == b"-".as_slice() {
         return Ok(None);
@@ -38,7 +39,8 @@ fn translation(word: &[u8]) -> Result<Option<u8>, u8>
 
 #[tactic(auto, unfolding(crate::specs::UnitLines::shape_at))]
 fn shape(words: &Words<'_>) -> Result<Shape, u8>
-    ensures { result ≡ shape_at words.now }
+    ensures value { result ≡ shape_at words.now }
+    ensures valid { IfOk result (λ shape. IsValidShape shape) }
 {
     let rrids = number_within(words.word(2), 1, 64)?;
     let domains = number_within(words.word(4), 1, 31)?;
@@ -66,7 +68,8 @@ fn shape(words: &Words<'_>) -> Result<Shape, u8>
 /// The shape that the words of a unit line write.
 #[tactic(auto, unfolding(crate::specs::UnitLines::unit_line))]
 pub fn unit_shape(words: &Words<'_>) -> Result<Shape, u8>
-    ensures { result ≡ unit_line words.now }
+    ensures value { result ≡ unit_line words.now }
+    ensures valid { IfOk result (λ shape. IsValidShape shape) }
 {
     if !are_unit_keys(words) {
         return Err(MISSHAPEN);
