@@ -1,5 +1,5 @@
 -- Each kind of line keeps what holds of the state.
-use Rattle.std.proofs.Common.{◌≡◌, ℕ, ◌+◌, ◌<◌, ◌≤◌, Bool, true, false, List, [], ◌∷◌, ◌++◌, Ok, length, count_by, cond, if◌then◌else◌, refl, ap, sym, subst, ◌∙◌, arith, length-append}
+use Rattle.std.proofs.Common.{◌≡◌, ℕ, ◌+◌, ◌<◌, ◌≤◌, Bool, true, false, List, [], ◌∷◌, ◌++◌, Ok, Result, length, count_by, cond, if◌then◌else◌, refl, ap, sym, subst, ◌∙◌, arith, length-append}
 use Rattle.std.proofs.lemmas.List.Sums.{count_by-le-length, sum_by-cons, sum_by_push}
 use Rattle.std.specs.List.{AllByRecursion}
 use Rattle.event_words.specs.declared.shape.Shape.{Shape}
@@ -8,7 +8,7 @@ use Rattle.event_words.specs.Valid.{IsValidShape}
 use Rattle.event_words.specs.Sections.{SectionOf, IsValidSection, AreValidCommands, IsValidCommand, NamesUnits, NamesOnlyUnits, is_submit}
 use Rattle.script_reader.specs.declared.reader.Place.{Place}
 use Rattle.script_reader.specs.declared.reader.Place.TheVariants.{Head, Units, Boot, Lane, Finished}
-use Rattle.script_reader.specs.Lines.{State, OpenSection, new_section, no_commands, section_of, start, closed, next_lane}
+use Rattle.script_reader.specs.Lines.{State, OpenSection, new_section, no_commands, section_of, with_command, start, closed, next_lane}
 use Rattle.script_reader.specs.Sound.{IsSound, IsSoundSection, IsBlank, HasLanes, FitsPlace, IsInSection, MayFollow, IsGoodCommand}
 
 pub all_push : {A : Type 0} (P : A → Type 0) (xs : List A) (x : A) → AllByRecursion P xs → P x → AllByRecursion P (xs ++ x ∷ [])
@@ -39,6 +39,21 @@ section_push units old new c sound good commands names = record {
   commands = subst (AreValidCommands 0) (sym commands) (commands_push 0 (length old.names) old.commands c sound.commands (omega (arith, sound.names)) good.valid);
   units_there = subst (AllByRecursion (NamesUnits units)) (sym commands) (all_push (NamesUnits units) old.commands c sound.units_there good.units_there);
 }
+
+-- a command that makes no slot
+pub section_pushed : (units n slot : ℕ) (old new : OpenSection) (c : Command) → IsSoundSection units old → IsGoodCommand n slot c → n ≡ units → slot ≡ length old.names → is_submit c ≡ false
+    → (let read : Result OpenSection ℕ = Ok (with_command old c) in read ≡ Ok new) → IsSoundSection units new
+section_pushed units n slot old new c sound good count slots other e =
+    let same : with_command old c ≡ new = cc in
+    section_push units old new c sound (subst (λ k. IsGoodCommand k (length old.names) c) count (subst (λ k. IsGoodCommand n k c) slots good)) (ap (λ o. o.commands) (sym same))
+    (ap (λ o. length o.names) (sym same) ∙ ap (λ b. if b then length old.names + 1 else length old.names) (sym other))
+
+-- a submission
+pub section_submitted : (units n slot : ℕ) (old new : OpenSection) (c : Command) → IsSoundSection units old → IsGoodCommand n slot c → n ≡ units → slot ≡ length old.names → is_submit c ≡ true
+    → new.commands ≡ old.commands ++ c ∷ [] → length new.names ≡ length old.names + 1 → IsSoundSection units new
+section_submitted units n slot old new c sound good count slots submits commands names =
+    section_push units old new c sound (subst (λ k. IsGoodCommand k (length old.names) c) count (subst (λ k. IsGoodCommand n k c) slots good)) commands
+    (names ∙ ap (λ b. if b then length old.names + 1 else length old.names) (sym submits))
 
 -- ---- lines
 

@@ -191,7 +191,7 @@ impl<'a> Reader<'a> {
     #[tactic(auto, unfolding(crate::specs::Lines::end_step))]
     fn end_line(self, alloc: Global, words: &Words<'a>) -> Result<Reader<'a>, StepError>
         requires in_section { IsInSection self.place }
-        requires room { length self.section.commands < 4194304 }
+        requires room { length self.section.commands ≤ 4194304 }
         ensures value { Gives result (spec.end_step self.entry words.now) }
         ensures grown { IfOk result (λ r. length r.section.commands ≤ length self.entry.section.commands + 1) }
     {
@@ -204,7 +204,7 @@ impl<'a> Reader<'a> {
     #[tactic(auto, unfolding(crate::specs::Lines::lane_step))]
     fn lane_line(self, alloc: Global, words: &Words<'a>) -> Result<Reader<'a>, StepError>
         requires in_section { IsInSection self.place }
-        requires room { length self.section.commands < 4194304 }
+        requires room { length self.section.commands ≤ 4194304 }
         ensures value { Gives result (spec.lane_step self.entry words.now) }
         ensures grown { IfOk result (λ r. length r.section.commands ≤ length self.entry.section.commands + 1) }
     {
@@ -222,7 +222,7 @@ impl<'a> Reader<'a> {
     #[tactic(auto, unfolding(crate::specs::Lines::submit_step))]
     fn submit_line(self, words: &Words<'a>) -> Result<Reader<'a>, StepError>
         requires in_section { IsInSection self.place }
-        requires room { length self.section.commands < 4194304 }
+        requires room { length self.section.commands ≤ 4194304 }
         ensures value { Gives result (spec.submit_step self.entry words.now) }
         ensures grown { IfOk result (λ r. length r.section.commands ≤ length self.entry.section.commands + 1) }
     {
@@ -287,7 +287,7 @@ impl<'a> Reader<'a> {
     #[tactic(auto, unfolding(crate::specs::Lines::section_step))]
     fn section_line(self, alloc: Global, words: &Words<'a>) -> Result<Reader<'a>, StepError>
         requires in_section { IsInSection self.place }
-        requires room { length self.section.commands < 4194304 }
+        requires room { length self.section.commands ≤ 4194304 }
         ensures value { Gives result (spec.section_step self.entry words.now) }
         ensures grown { IfOk result (λ r. length r.section.commands ≤ length self.entry.section.commands + 1) }
     {
@@ -303,7 +303,7 @@ impl<'a> Reader<'a> {
     }
 
     fn placed_line(self, alloc: Global, words: &Words<'a>) -> Result<Reader<'a>, StepError>
-        requires { length self.section.commands < 4194304 }
+        requires { length self.section.commands ≤ 4194304 }
         ensures value { Gives result (spec.place_step self.entry.place self.entry words.now) }
         ensures grown { IfOk result (λ r. length r.section.commands ≤ length self.entry.section.commands + 1) }
     {
@@ -317,7 +317,7 @@ impl<'a> Reader<'a> {
 
     #[tactic(auto, unfolding(crate::specs::Lines::words_step))]
     fn words_line(self, alloc: Global, words: &Words<'a>) -> Result<Reader<'a>, StepError>
-        requires { length self.section.commands < 4194304 }
+        requires { length self.section.commands ≤ 4194304 }
         ensures value { Gives result (spec.words_step self.entry words.now) }
         ensures grown { IfOk result (λ r. length r.section.commands ≤ length self.entry.section.commands + 1) }
     {
@@ -334,7 +334,7 @@ impl<'a> Reader<'a> {
     /// The state after one more line.
     #[tactic(auto, unfolding(crate::specs::Lines::line_step))]
     pub fn line(self, alloc: Global, line: &'a [u8]) -> Result<Reader<'a>, StepError>
-        requires { length self.section.commands < 4194304 }
+        requires { length self.section.commands ≤ 4194304 }
         ensures value { Gives result (spec.line_step self.entry line.entry.now) }
         ensures grown { IfOk result (λ r. length r.section.commands ≤ length self.entry.section.commands + 1) }
     {
