@@ -3,4 +3,4 @@ pub mod Needs
 pub mod Numerals
 pub mod Slots
 pub mod Sounds
-pub mod Rows
+mod Rows

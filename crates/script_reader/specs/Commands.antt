@@ -62,24 +62,24 @@ stages_at units words count = do
 -- `w unit off val`
 unfoldable pub write_at : ℕ → List (List ℕ) → Result Command ℕ
 write_at units words = if not (length words == 4) then Err misshapen else do
-    unit ← unit_at units (word_at words 1)
-    index ← index_at (word_at words 2)
-    value ← value_at (word_at words 3)
-    Ok (Write unit index value)
+  unit ← unit_at units (word_at words 1)
+  index ← index_at (word_at words 2)
+  value ← value_at (word_at words 3)
+  Ok (Write unit index value)
 
 -- `r unit off`
 unfoldable pub read_at : ℕ → List (List ℕ) → Result Command ℕ
 read_at units words = if not (length words == 3) then Err misshapen else do
-    unit ← unit_at units (word_at words 1)
-    index ← index_at (word_at words 2)
-    Ok (Read unit index)
+  unit ← unit_at units (word_at words 1)
+  index ← index_at (word_at words 2)
+  Ok (Read unit index)
 
 -- `t unit rrid kind addr len as name` without its name: the slot is given
 unfoldable pub submit_at : ℕ → ℕ → List (List ℕ) → Result Command ℕ
 submit_at units slot words = if not (length words == 8 && is_word_at words 6 (codes "as")) then Err misshapen else do
-    unit ← unit_at units (word_at words 1)
-    access ← access_at words 2
-    Ok (Submit unit access slot)
+  unit ← unit_at units (word_at words 1)
+  access ← access_at words 2
+  Ok (Submit unit access slot)
 
 -- `j name`
 unfoldable pub judge_at : List (List ℕ) → List (List ℕ) → Result Command ℕ
@@ -88,28 +88,28 @@ judge_at names words = if length words == 2 then (slot_at names (word_at words 1
 -- `settle name max n`
 unfoldable pub settle_at : List (List ℕ) → List (List ℕ) → Result Command ℕ
 settle_at names words = if not (length words == 4 && is_word_at words 2 (codes "max")) then Err misshapen else do
-    slot ← slot_at names (word_at words 1)
-    max ← max_at (word_at words 3)
-    Ok (Settle slot max)
+  slot ← slot_at names (word_at words 1)
+  max ← max_at (word_at words 3)
+  Ok (Settle slot max)
 
 -- `until unit off mask val max n`
 unfoldable pub until_at : ℕ → List (List ℕ) → Result Command ℕ
 until_at units words = if not (length words == 7 && is_word_at words 5 (codes "max")) then Err misshapen else do
-    unit ← unit_at units (word_at words 1)
-    index ← index_at (word_at words 2)
-    mask ← value_at (word_at words 3)
-    value ← value_at (word_at words 4)
-    max ← max_at (word_at words 6)
-    Ok (Until unit index mask value max)
+  unit ← unit_at units (word_at words 1)
+  index ← index_at (word_at words 2)
+  mask ← value_at (word_at words 3)
+  value ← value_at (word_at words 4)
+  max ← max_at (word_at words 6)
+  Ok (Until unit index mask value max)
 
 -- `through`, one to four units, `rrid kind addr len max n`: the number of words tells how many units
 unfoldable pub through_at : ℕ → List (List ℕ) → Result Command ℕ
 through_at units words =
-  if not ((nat_le 8 (length words) && nat_le (length words) 11) && is_word_at words (length words - 2) (codes "max")) then Err misshapen else do
-    stages ← stages_at units words (length words - 7)
-    access ← access_at words (length words - 6)
-    max ← max_at (word_at words (length words - 1))
-    Ok (Through stages access max)
+    if not ((nat_le 8 (length words) && nat_le (length words) 11) && is_word_at words (length words - 2) (codes "max")) then Err misshapen else do
+      stages ← stages_at units words (length words - 7)
+      access ← access_at words (length words - 6)
+      max ← max_at (word_at words (length words - 1))
+      Ok (Through stages access max)
 
 -- every command but a submission, by the first word
 unfoldable pub command_at : ℕ → List (List ℕ) → List (List ℕ) → Result Command ℕ

@@ -31,10 +31,7 @@ fn are_letters_or_digits(word: &[u8]) -> bool
 fn is_name(word: &[u8]) -> bool
     ensures { result ≡ is_name word.now }
 {
-    1 <= word.len()
-        && word.len() <= 8
-        && is_letter(word[0])
-        && are_letters_or_digits(word)
+    1 <= word.len() && word.len() <= 8 && is_letter(word[0]) && are_letters_or_digits(word)
 }
 
 /// The names of a section's submissions in their order. A name's place among them is its slot.
