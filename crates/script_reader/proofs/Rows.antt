@@ -83,7 +83,6 @@ bad_polls :
     map fault_of
     ((codes "until 0 0x8 0x0 0x1 max 0" ∷ [])
     ∷ (codes "through 0 1 3 r 0x0 1 max 1" ∷ [])
-    ∷ (codes "through 0 3 r 0x0 1 max 1" ∷ [])
     ∷ [])
     ≡ Some (4, 6) ∷ Some (4, 11) ∷ []
 unfolding digit_of number_of number_at ranged has_keys translation_at shape_at unit_line is_name slot_at with_name unit_at index_at kind_at access_at stage_at stages_at write_at read_at submit_at judge_at settle_at until_at through_at command_at head_step unit_step boot_step end_step lane_step submit_step command_step units_step section_step words_step line_step
@@ -97,7 +96,6 @@ bad_places :
     ∷ (codes "lane" ∷ [])
     ∷ (codes "lane 1 x" ∷ [])
     ∷ (codes "lane 2 x" ∷ [])
-    ∷ (codes "lane 1" ∷ [])
     ∷ (codes "boot" ∷ [])
     ∷ (codes "end" ∷ [])
     ∷ [])

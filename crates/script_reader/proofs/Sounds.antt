@@ -8,8 +8,8 @@ use Rattle.event_words.specs.Valid.{IsValidShape}
 use Rattle.event_words.specs.Sections.{SectionOf, IsValidSection, AreValidCommands, IsValidCommand, NamesUnits, NamesOnlyUnits, is_submit}
 use Rattle.script_reader.specs.declared.reader.Place.{Place}
 use Rattle.script_reader.specs.declared.reader.Place.TheVariants.{Head, Units, Boot, Lane, Finished}
-use Rattle.script_reader.specs.Lines.{State, OpenSection, new_section, no_commands, section_of, with_command, start, closed, next_lane}
-use Rattle.script_reader.specs.Sound.{IsSound, IsSoundSection, IsBlank, HasLanes, FitsPlace, IsInSection, MayFollow, IsGoodCommand}
+use Rattle.script_reader.specs.Lines.{State, OpenSection, new_section, no_commands, section_of, with_command, start, next_lane}
+use Rattle.script_reader.specs.Sound.{IsSound, IsSoundSection, FitsPlace, IsInSection, MayFollow, IsGoodCommand}
 
 pub all_push : {A : Type 0} (P : A → Type 0) (xs : List A) (x : A) → AllByRecursion P xs → P x → AllByRecursion P (xs ++ x ∷ [])
 all_push P [] x all here = (here, tt)

@@ -1,5 +1,5 @@
 -- Which line may stand where, which code a bad line has, and what a good one adds.
-use Rattle.std.specs.Prelude.{ℕ, ◌+◌, ◌&&◌, ◌||◌, ◌==◌, nat_lt, not, Bool, true, false, if◌then◌else◌, List, [], ◌∷◌, ◌++◌, length, codes, Ok, Err, slice_index}
+use Rattle.std.specs.Prelude.{ℕ, ◌+◌, ◌&&◌, ◌||◌, ◌==◌, nat_lt, not, Bool, if◌then◌else◌, List, [], ◌∷◌, ◌++◌, length, codes, Ok, Err, slice_index}
 use Rattle.std.specs.declared.result.Result.{Result}
 use Rattle.std.specs.List.{list_all}
 use Rattle.std.specs.Str.{bytes_eq}
@@ -8,7 +8,7 @@ use Rattle.event_words.specs.declared.section.Command.{Command}
 use Rattle.event_words.specs.Sections.{SectionOf}
 use Rattle.script_reader.specs.declared.reader.Place.{Place}
 use Rattle.script_reader.specs.declared.reader.Place.TheVariants.{Head, Units, Boot, Lane, Finished}
-use Rattle.script_reader.specs.Codes.{◌>>=◌, not_plain, no_head, misplaced, misshapen, not_a_number, out_of_range, not_built}
+use Rattle.script_reader.specs.Codes.{◌>>=◌, not_plain, no_head, misplaced, misshapen, out_of_range, not_built}
 use Rattle.script_reader.specs.Text.{is_plain, words_of}
 use Rattle.script_reader.specs.Numbers.{number_at}
 use Rattle.script_reader.specs.Words.{word_at, is_word_at}

@@ -6,7 +6,7 @@ use Rattle.event_words.specs.declared.shape.Shape.{Shape}
 use Rattle.event_words.specs.Valid.{IsValidShape}
 use Rattle.event_words.specs.Sections.{SectionOf, IsValidSection, NamesOnlyUnits, events_of}
 use Rattle.script_reader.specs.declared.reader.Place.{Place}
-use Rattle.script_reader.specs.declared.reader.Place.TheVariants.{Head, Units, Boot, Lane, Finished}
+use Rattle.script_reader.specs.declared.reader.Place.TheVariants.{Head, Finished}
 use Rattle.script_reader.specs.Codes.{no_head, misplaced}
 use Rattle.script_reader.specs.Text.{lines_of}
 use Rattle.script_reader.specs.Lines.{State, start, line_step}

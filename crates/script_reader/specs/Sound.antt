@@ -1,5 +1,5 @@
 -- What holds of the state after any lines.
-use Rattle.std.specs.Prelude.{◌≡◌, ℕ, ◌≤◌, List, [], length, count_by}
+use Rattle.std.specs.Prelude.{◌≡◌, ℕ, ◌≤◌, [], length, count_by}
 use Rattle.std.specs.List.{AllByRecursion}
 use Rattle.event_words.specs.declared.section.Command.{Command}
 use Rattle.event_words.specs.declared.section.Stages.{Stages}

@@ -1,5 +1,5 @@
 -- What a function of the code gives is what a definition gives, unless memory runs out.
-use Rattle.std.specs.Prelude.{◌≡◌, ℕ, List, Ok, Err}
+use Rattle.std.specs.Prelude.{◌≡◌, ℕ, Ok, Err}
 use Rattle.std.specs.declared.result.Result.{Result}
 use Rattle.script_reader.specs.declared.step.StepError.{StepError}
 use Rattle.script_reader.specs.declared.step.StepError.TheVariants.{Code, NoMemory}

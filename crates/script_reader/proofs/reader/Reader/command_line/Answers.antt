@@ -1,5 +1,5 @@
 -- The open section has one command more.
-use Rattle.std.proofs.Common.{◌≡◌, length, ap, subst, rules, arith}
+use Rattle.std.proofs.Common.{◌≡◌, length, ap, subst, rules}
 use Rattle.script_reader.specs.Lines.{State, OpenSection}
 use Rattle.script_reader.specs.Sound.{IsInSection}
 use Rattle.script_reader.proofs.Sounds.{section_pushed, sound_section}
