@@ -1,4 +1,5 @@
-//! Which domains a requester has, and what they grant it.
+//! Which domains a requester is associated with, and what they grant it, by the format of the SRCMD
+//! table.
 #![tactic(auto)]
 
 ghost use Rattle.std.specs.Prelude.{◌≡◌, ℕ, Bool, ◌+◌, ◌*◌, ◌^◌, ◌<◌, ◌≤◌, IsTrue};
@@ -8,6 +9,9 @@ ghost use Rattle.event_words.specs.Domains.{is_in_table, is_associated, by_kind,
 use event_words::{Kind, Register};
 use register_fields::{Regs, has_bit};
 
+/// Whether the table associates a known requester with a domain of the shape: in format 0 by the
+/// domain's bit of SRCMD_EN, in format 1 where their numbers are the same, in format 2 by either of the
+/// requester's two bits of SRCMD_PERM.
 fn is_in_table(regs: &Regs, rrid: u32, domain: u32) -> bool
     requires rrid { rrid < regs.now.shape.rrids }
     requires domain { domain < regs.now.shape.domains }
@@ -23,7 +27,7 @@ fn is_in_table(regs: &Regs, rrid: u32, domain: u32) -> bool
     }
 }
 
-/// One domain of a mask of domains, bit m for domain m, as a test.
+/// One domain, 0 to 63, of a mask of domains that has bit m for domain m, as a test.
 pub fn has_domain(domains: u64, domain: u8) -> bool
     requires { domain < 64 }
     ensures { result ≡ has_bit domains domain }
@@ -31,7 +35,8 @@ pub fn has_domain(domains: u64, domain: u8) -> bool
     (domains >> domain) % 2 == 1
 }
 
-/// The domains of a requester: bit m for domain m.
+/// The domains of a requester: bit m is 1 exactly where it is known and associated with domain m of
+/// the shape. A requester that isn't known has none.
 pub fn domains_of(regs: &Regs, rrid: u8) -> u64
     ensures { (m : ℕ) → has_bit result m ≡ is_associated regs.now rrid m }
 {
@@ -47,6 +52,7 @@ pub fn domains_of(regs: &Regs, rrid: u8) -> u64
     mask
 }
 
+/// The one of two permissions that rules a kind: a fetch goes by the permission to read.
 fn by_kind(kind: Kind, read: bool, write: bool) -> bool
     ensures { result ≡ by_kind kind read write }
 {
@@ -56,7 +62,9 @@ fn by_kind(kind: Kind, read: bool, write: bool) -> bool
     }
 }
 
-/// A domain of the requester grants it the kind.
+/// Whether a domain grants the kind to a requester that is known and associated with it: in format 2
+/// by the requester's bits of SRCMD_PERM, the lower to read and fetch, the upper to write, in format 0
+/// with secondary permissions by the domain's bit of SRCMD_R or SRCMD_W, else always.
 pub fn grants(regs: &Regs, rrid: u8, domain: u8, kind: Kind) -> bool
     requires { IsTrue (is_associated regs.now rrid domain) }
     ensures { result ≡ domain_grants regs.now rrid domain kind }

@@ -1,4 +1,6 @@
 //! Which requesters are stalled, and how many of their transactions are in flight.
+//!
+//! The flags are computed at a write of MDSTALL or RRIDSCP, and follow no later write of the tables.
 #![tactic(auto)]
 
 ghost use Rattle.std.specs.Prelude.{◌≡◌, ◌&&◌, ℕ, Bool, false, ◌+◌, ◌-◌, ◌*◌, ◌^◌, ◌<◌, ◌≤◌, List, length, map, replicate, take, slice_index, slice_set};
@@ -9,10 +11,11 @@ ghost use Rattle.event_words.specs.Stalls.{flag_of, is_selected, differs, flags_
 ghost use Rattle.stall_control.specs.Counts.{Stalls, count_in, more_at, less_at, is_busy_at, none_stalled, is_busy_with};
 
 use register_fields::{Regs, has_bit};
-use srcmd_formats::domains_of;
+use srcmd_formats::{domains_of, has_domain};
 use std::marker::Model;
 
-/// The flags of the known requesters, and their counts in flight.
+/// Of each requester that the unit knows, whether it is stalled, and the number of its transactions in
+/// flight. Contracts see it as these two lists.
 #[derive(Drop)]
 pub struct StallState {
     rrids: u8,
@@ -31,19 +34,21 @@ impl Model for StallState {
     ghost invariant = { λ s. s.rrids ≤ 64 };
 }
 
-fn is_selected_by(value: u32, mask: u64, domain: u32) -> bool
+/// Whether a domain is among those that a write of MDSTALL selects and those of a mask.
+fn is_selected_by(value: u32, mask: u64, domain: u8) -> bool
     requires { domain < 31 }
     ensures { result ≡ has_bit value (domain + 1) && has_bit mask domain }
 {
-    has_bit(value, domain + 1) && (mask >> domain) % 2 == 1
+    has_bit(value, domain as u32 + 1) && has_domain(mask, domain)
 }
 
+/// Whether the requester is associated with a domain that a write of MDSTALL selects.
 fn is_selected(regs: &Regs, value: u32, rrid: u8) -> bool
     ensures { result ≡ is_selected regs.now value rrid }
 {
     let mask = domains_of(regs, rrid);
     let shape = regs.shape();
-    for domain in 0..shape.domains as u32 {
+    for domain in 0..shape.domains {
         if is_selected_by(value, mask, domain) {
             return true;
         }
@@ -51,6 +56,7 @@ fn is_selected(regs: &Regs, value: u32, rrid: u8) -> bool
     false
 }
 
+/// Sets each flag where bit 0 of a write of MDSTALL, exempt, differs from being selected.
 fn set_flags(regs: &Regs, value: u32, flags: &mut [bool])
     requires { length flags.old ≤ 64 }
     ensures { flags.new ≡ map (λ s. differs (has_bit value 0) (is_selected regs.now value s)) (range_with_len 0 (length flags.old)) }
@@ -61,6 +67,7 @@ fn set_flags(regs: &Regs, value: u32, flags: &mut [bool])
     }
 }
 
+/// Sets or clears one flag by a write of RRIDSCP, whose bits 31:30 are the operation.
 fn set_flag(flags: &mut [bool], value: u32)
     ensures { flags.new ≡ flags_after_rridscp flags.old value }
 {
@@ -74,6 +81,7 @@ fn set_flag(flags: &mut [bool], value: u32)
     }
 }
 
+/// One more for a known requester.
 fn more_at(counts: &mut [u32], rrid: u8)
     requires { count_in counts.old rrid < 1048576 }
     ensures { counts.new ≡ more_at counts.old rrid }
@@ -83,6 +91,7 @@ fn more_at(counts: &mut [u32], rrid: u8)
     }
 }
 
+/// One fewer for a known requester.
 fn less_at(counts: &mut [u32], rrid: u8)
     requires { rrid < length counts.old → 0 < count_in counts.old rrid }
     ensures { counts.new ≡ less_at counts.old rrid }
@@ -92,6 +101,7 @@ fn less_at(counts: &mut [u32], rrid: u8)
     }
 }
 
+/// Whether the requester is stalled and has a transaction in flight.
 fn is_busy_at(flags: &[bool], counts: &[u32], rrid: usize) -> bool
     requires { length flags.now ≡ length counts.now }
     ensures { result ≡ is_busy_at flags.now counts.now rrid }
@@ -99,6 +109,7 @@ fn is_busy_at(flags: &[bool], counts: &[u32], rrid: usize) -> bool
     rrid < flags.len() && flags[rrid] && counts[rrid] != 0
 }
 
+/// Whether some requester is so.
 fn is_busy_with(flags: &[bool], counts: &[u32]) -> bool
     requires { length flags.now ≡ length counts.now }
     ensures { result ≡ is_busy_with flags.now counts.now }
@@ -107,6 +118,7 @@ fn is_busy_with(flags: &[bool], counts: &[u32]) -> bool
 }
 
 impl StallState {
+    /// Of 1 to 64 known requesters none is stalled, and nothing is in flight.
     pub fn new(rrids: u8) -> StallState
         requires { (1 ≤ rrids) × (rrids ≤ 64) }
         ensures { result ≡ none_stalled rrids }
@@ -118,7 +130,9 @@ impl StallState {
         }
     }
 
-    /// The flags after a write of MDSTALL.
+    /// The flags after a write of `value` to MDSTALL, in a unit that knows as many requesters. Bit 0 is
+    /// exempt, and bit m + 1 selects domain m. A requester is then stalled exactly where exempt differs
+    /// from "it is associated with a selected domain", under the tables of this moment. Counts stay.
     pub fn after_mdstall(&mut self, regs: &Regs, value: u32)
         requires { length self.old.flags ≡ regs.now.shape.rrids }
         ensures flags { self.new.flags ≡ flags_after_mdstall regs.now value }
@@ -128,7 +142,9 @@ impl StallState {
         set_flags(regs, value, &mut self.flags[..rrids]);
     }
 
-    /// The flags after a write of RRIDSCP.
+    /// The flags after a write of `value` to RRIDSCP, in a unit that knows as many requesters. Bits
+    /// 15:0 name a requester and bits 31:30 are the operation: 1 stalls it and 2 releases it, where it
+    /// is known. 0 and 3 change no flag. Other flags stay, and counts do.
     pub fn after_rridscp(&mut self, regs: &Regs, value: u32)
         requires { length self.old.flags ≡ regs.now.shape.rrids }
         ensures flags { self.new.flags ≡ flags_after_rridscp self.old.flags value }
@@ -139,13 +155,15 @@ impl StallState {
         set_flag(&mut self.flags[..rrids], value);
     }
 
+    /// Whether the requester is stalled. One that isn't known never is.
     pub fn stalled(&self, rrid: u8) -> bool
         ensures { result ≡ flag_of self.now.flags rrid }
     {
         rrid < self.rrids && self.flags[rrid as usize]
     }
 
-    /// One more transaction of the requester is in flight.
+    /// One more transaction of the requester is in flight, of which fewer than 1048576 were. Of a
+    /// requester that isn't known nothing is counted. All else stays.
     pub fn enter(&mut self, rrid: u8)
         requires { count_in self.old.counts rrid < 1048576 }
         ensures flags { self.new.flags ≡ self.old.flags }
@@ -155,7 +173,8 @@ impl StallState {
         more_at(&mut self.counts[..rrids], rrid);
     }
 
-    /// One fewer is.
+    /// One fewer is, of which some were. Of a requester that isn't known nothing is counted. All else
+    /// stays.
     pub fn leave(&mut self, rrid: u8)
         requires { rrid < length self.old.counts → 0 < count_in self.old.counts rrid }
         ensures flags { self.new.flags ≡ self.old.flags }
@@ -165,7 +184,7 @@ impl StallState {
         less_at(&mut self.counts[..rrids], rrid);
     }
 
-    /// Some stalled requester has a transaction in flight.
+    /// Whether some stalled requester has a transaction in flight.
     pub fn busy(&self) -> bool
         ensures { result ≡ is_busy_with self.now.flags self.now.counts }
     {
