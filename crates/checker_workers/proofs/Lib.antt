@@ -1,0 +1,7 @@
+pub mod Making
+pub mod OpenTickets
+pub mod Repeats
+pub mod Judging
+pub mod Tables
+pub mod Turns
+pub mod Commands

@@ -1,0 +1,6 @@
+pub mod Ports
+pub mod TicketViews
+pub mod Tickets
+pub mod Slots
+pub mod Pieces
+pub mod Lanes

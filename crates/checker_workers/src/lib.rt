@@ -1,0 +1,14 @@
+//! Workers that make the events of sections on a shared log: ports over one caller, tickets of open
+//! submissions, and lanes that run beside each other.
+#![tactic(auto)]
+
+mod gate;
+mod lane;
+mod pieces;
+mod port;
+mod ticket;
+
+pub use gate::{FreeGate, Gate};
+pub use lane::{Lane, LaneEnd, NoMemory};
+pub use port::Port;
+pub use ticket::{Judged, Submitted, Ticket};
