@@ -13,6 +13,7 @@ use Rattle.event_words.specs.declared.section.Command.{Command}
 use Rattle.event_words.specs.declared.section.Command.TheVariants as commands
 use Rattle.event_words.specs.Word.{word_of}
 use Rattle.event_words.specs.Records.{OpenSlot, Cut, one_piece, submit_piece, settle_piece, settled, until_piece, opened_slot, slot_of, is_taken, first_as, judgements}
+use Rattle.event_words.specs.Sections.{NamesUnits}
 use Rattle.checker_workers.specs.declared.ticket.Submitted.{Submitted}
 use Rattle.checker_workers.specs.declared.ticket.Submitted.TheVariants as submitted
 use Rattle.checker_workers.specs.declared.ticket.Judged.TheVariants.{Done, Held}
@@ -102,6 +103,12 @@ plays_submit p q table unit slot a s m there h tickets =
       record_is = λ rest. ap (submit_piece (slots_of table) unit) (first_as-cons e x rest refl) ∙ ap (λ (ss : Slots). let cut : Cut = record { slots = ss; rest = rest; stops = false } in Some cut) slots;
       tickets = table_pushed p q table (ticket_of s) tickets kept (new_slot p q unit a s m there h);
     }
+
+pub plays_submit_as : (p q : PortView) (table after : Table) (unit slot : ℕ) (a : Access) (s : Submitted) (command : Command) → command ≡ commands.Submit unit a slot → after ≡ table ++ ticket_of s ∷ []
+    → MakesEvent p (events.Submit unit p.number a) (submitted_reply s) q → NamesUnits (unit_count p) command → HandsOut q unit s → IsTicketTable p table → PlaysCommand p table command q after false
+plays_submit_as p q table after unit slot a s command is grown m there h tickets =
+    let unit_there : unit < unit_count p = subst (NamesUnits (unit_count p)) is there in
+    subst (λ (k : Command). PlaysCommand p table k q after false) (sym is) (subst (λ (ts : Table). PlaysCommand p table (commands.Submit unit a slot) q ts false) (sym grown) (plays_submit p q table unit slot a s m unit_there h tickets))
 
 -- ---- judgements
 

@@ -5,3 +5,4 @@ pub mod Judging
 pub mod Tables
 pub mod Turns
 pub mod Commands
+pub mod Playing

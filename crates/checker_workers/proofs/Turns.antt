@@ -66,7 +66,7 @@ belongs_still p q made s a b = (ap (λ (v : PortView). v.table) a.same ∙ b.0, 
 pub ends_other : (u : TicketView) (x : LoggedEvent) → same_event (judgement u) x.event ≡ false → is_end u x ≡ false
 ends_other u x h = and_right (nat_lt u.place x.place) _ (and_left (same_event (judgement u) x.event) (is_verdict x.reply) h)
 
-none_more : (u : TicketView) (made : List LoggedEvent) (x : LoggedEvent) → list_any (is_end u) made ≡ false → is_end u x ≡ false → list_any (is_end u) (made ++ x ∷ []) ≡ false
+pub none_more : (u : TicketView) (made : List LoggedEvent) (x : LoggedEvent) → list_any (is_end u) made ≡ false → is_end u x ≡ false → list_any (is_end u) (made ++ x ∷ []) ≡ false
 none_more u made x h e = list_any-append (is_end u) made (x ∷ []) ∙ or_from (list_any (is_end u) made) _ h (or_from (is_end u x) false e refl)
 
 other_place : (u t : TicketView) → (u.place ≡ t.place → ⊥) → same_event (judgement u) (judgement t) ≡ false

@@ -6,7 +6,7 @@ use Rattle.event_words.specs.declared.record.SectionEnd.{SectionEnd}
 use Rattle.event_words.specs.declared.record.SectionEnd.TheVariants as ends
 use Rattle.event_words.specs.declared.section.Command.{Command}
 use Rattle.event_words.specs.declared.section.Command.TheVariants.{Through}
-use Rattle.event_words.specs.Records.{section_end}
+use Rattle.event_words.specs.Records.{section_end, end_from}
 use Rattle.event_words.specs.Sections.{SectionOf, IsValidSection, NamesOnlyUnits, events_of}
 use Rattle.checker_workers.specs.declared.lane.LaneEnd.{LaneEnd}
 use Rattle.checker_workers.specs.declared.lane.LaneEnd.TheVariants.{Fresh, Done, Stopped}
@@ -48,15 +48,25 @@ abbrev pub end_of : SectionEnd → LaneEnd
 end_of ends.Done = Done
 end_of ends.Stopped = Stopped
 
--- The caller made a whole record of the commands, and how it ended.
-pub record PlaysSection (p : PortView) (section : SectionOf) (q : PortView) (ended : LaneEnd) : Type 0 where
+-- The caller made a whole record of these commands, and how it ended.
+pub record PlaysCommands (p : PortView) (all : List Command) (q : PortView) (ended : LaneEnd) : Type 0 where
   pub made : List LoggedEvent
   pub adds : MakesEvents p made q
   pub how : SectionEnd
-  pub record_is : section_end p.number section made ≡ Some how
+  pub record_is : end_from p.number all [] made ≡ Some how
   pub ended_so : ended ≡ end_of how
 
--- A lane that ran.
+-- The lane ran: its caller made a whole record of its section, and the lane ended as the record does.
 pub record Runs (l m : LaneView) : Type 0 where
-  pub section : m.section ≡ l.section
-  pub plays : PlaysSection l.port l.section m.port m.ended
+  pub made : List LoggedEvent
+  pub adds : MakesEvents l.port made m.port
+  pub how : SectionEnd
+  pub record_is : section_end l.port.number l.section made ≡ Some how
+  pub ended_so : m.ended ≡ end_of how
+  pub section_is : m.section ≡ l.section
+
+-- What holds of every lane.
+abbrev pub IsLane : LaneEnd → SectionOf → PortView → List (Option TicketView) → ℕ → Type 0
+IsLane Fresh section p table room = IsReady section p table room
+IsLane Done section p table room = Unit {0}
+IsLane Stopped section p table room = Unit {0}
