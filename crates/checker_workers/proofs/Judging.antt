@@ -1,5 +1,5 @@
 -- What a judgement of an open ticket replies.
-use Rattle.std.proofs.Common.{◌≡◌, ℕ, ◌<◌, Bool, true, false, cond, List, [], ◌∷◌, ◌++◌, length, Option, Some, None, find, refl, sym, ap, ◌∙◌, subst}
+use Rattle.std.proofs.Common.{◌≡◌, ℕ, ◌<◌, Bool, true, false, cond, List, [], ◌∷◌, ◌++◌, length, Option, Some, None, find, refl, sym, ap, ◌∙◌, subst, ⊎_elim}
 use Rattle.std.specs.Prelude.{◌&&◌, slice_get, nat_lt}
 use Rattle.std.specs.List.{list_any}
 use Rattle.std.proofs.lemmas.Bool.{and_right, or_from}
@@ -18,7 +18,8 @@ use Rattle.event_words.specs.Records.{is_held, is_verdict}
 use Rattle.unit_core.specs.declared.Submission.{Submission}
 use Rattle.unit_core.specs.Submissions.{is_item}
 use Rattle.unit_core.specs.Units.{UnitState, unit_step, judge_step, judge_item, verdict_step, closed}
-use Rattle.shared_log.specs.Words.{words_by}
+use Rattle.event_words.specs.Valid.{IsValidEvent}
+use Rattle.shared_log.specs.Words.{AllEventWords}
 use Rattle.checker_workers.specs.declared.ticket.Judged.{Judged}
 use Rattle.checker_workers.specs.declared.ticket.Judged.TheVariants.{Done, Held}
 use Rattle.checker_workers.specs.Ports.{PortView, AreAtReset, MakesEvent, own_events, units_after, unit_count, logged_at}
@@ -26,6 +27,8 @@ use Rattle.checker_workers.specs.TicketViews.{TicketView}
 use Rattle.checker_workers.specs.Tickets.{IsOpenTicket, Judges, is_end, is_in_queue, unit_queues, item_waits, judged_reply}
 use Rattle.checker_workers.proofs.Making.{Answers, answers, with_reply}
 use Rattle.checker_workers.proofs.OpenTickets.{ticket_kept}
+use Rattle.checker_workers.proofs.Standing.{judgement, open_reply}
+use Rattle.history_laws.proofs.TicketReplies.{IsJudged}
 
 -- ---- a judgement's replies
 
@@ -41,33 +44,7 @@ held_item : (u : UnitState) (place caller : ℕ) (o : Option Submission) → is_
 held_item u place caller None = refl
 held_item u place caller (Some item) = held_by u (closed place caller u) item (decision u.registers item.access) item.queued
 
-verdict_given : (u : UnitState) (a : Access) (d : Decision) → (v : Verdict) × ((verdict_step u a d).1 ≡ replies.Verdict v)
-verdict_given u a decisions.Allowed = (_, refl)
-verdict_given u a (decisions.Denied kind entry mute_irq mute_err) = (_, refl)
-
--- Held, or a verdict
-record IsJudgeReply (r : Reply) : Type 0 where
-  pub only : is_verdict r ≡ false → r ≡ replies.Held
-
-by_queued : (u v : UnitState) (item : Submission) (d : Decision) (b : Bool) → is_verdict (cond b (u, replies.Held) (verdict_step v item.access d)).1 ≡ false → (cond b (u, replies.Held) (verdict_step v item.access d)).1 ≡ replies.Held
-by_queued u v item d true h = refl
-by_queued u v item d false h = let g = verdict_given v item.access d in let n : true ≡ false = sym (ap is_verdict g.1) ∙ h in cc
-
-held_only : (u : UnitState) (place caller : ℕ) (item : Submission) (o : Option Submission) → o ≡ Some item → is_verdict (judge_item u place caller o).1 ≡ false → (judge_item u place caller o).1 ≡ replies.Held
-held_only u place caller item None e h = let n : None ≡ Some item = e in cc
-held_only u place caller item (Some x) e h = by_queued u (closed place caller u) x (decision u.registers x.access) x.queued h
-
--- ---- the ticket's submission stands
-
--- The unit has the submission of an open ticket, whatever others did since.
-pub ticket_stands : (p : PortView) (t : TicketView) (between : List ℕ) (u : UnitState) → AreAtReset p.first → IsOpenTicket p t → words_by p.number between ≡ [] → slice_get (units_after p (p.log ++ between)) t.unit ≡ Some u
-    → (item : Submission) × (find (is_item t.place t.caller) u.submissions ≡ Some item)
-ticket_stands p t between u reset h others is = ?
-
 -- ---- judgements
-
-abbrev pub judgement : TicketView → Event
-judgement t = events.Judge t.unit t.caller t.place
 
 held_where : (p q : PortView) (t : TicketView) (r : Reply) (m : MakesEvent p (judgement t) r q) → t.unit < unit_count p → is_held r ≡ is_in_queue t (units_after p (p.log ++ m.between))
 held_where p q t r m unit =
@@ -82,11 +59,15 @@ judged_done p q t r v m unit is = record {
   ticket = tt;
 }
 
-pub judged_held : (p q : PortView) (t : TicketView) (r : Reply) → MakesEvent p (judgement t) r q → t.unit < unit_count p → AreAtReset p.first → IsOpenTicket p t → is_verdict r ≡ false → Judges p t (Held t) q
-judged_held p q t r m unit reset h none_given =
-    let a = answers p q (judgement t) r m unit in
-    let s = ticket_stands p t m.between a.unit reset h m.others a.is in
-    let is : r ≡ replies.Held = a.reply ∙ held_only a.unit t.place t.caller s.0 (find (is_item t.place t.caller) a.unit.submissions) s.1 (ap is_verdict (sym a.reply) ∙ none_given) in
+held_only : (r : Reply) → IsJudged r → is_verdict r ≡ false → r ≡ replies.Held
+held_only r h none_given = ⊎_elim
+    (λ (e : r ≡ replies.Held). e)
+    (λ (e : (v : Verdict) × (r ≡ replies.Verdict v)). absurd (let n : true ≡ false = sym (ap is_verdict e.1) ∙ none_given in cc)) h
+
+pub judged_held : (p q : PortView) (t : TicketView) (r : Reply) → MakesEvent p (judgement t) r q → t.unit < unit_count p → AreAtReset p.first → AllEventWords q.log → IsValidEvent (judgement t) → IsOpenTicket p t → is_verdict r ≡ false
+    → Judges p t (Held t) q
+judged_held p q t r m unit reset all valid h none_given =
+    let is : r ≡ replies.Held = held_only r (open_reply p q t r m reset all valid h) none_given in
     let x : LoggedEvent = logged_at (length (p.log ++ m.between)) (judgement t) r in
     let none : is_end t x ≡ false = and_right (nat_lt t.place x.place) _ (and_right (same_event (judgement t) (judgement t)) (is_verdict r) none_given) in record {
       event = with_reply p q (judgement t) r replies.Held m is;

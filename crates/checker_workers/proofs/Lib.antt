@@ -1,6 +1,7 @@
 pub mod Making
 pub mod OpenTickets
 pub mod Repeats
+pub mod Standing
 pub mod Judging
 pub mod Tables
 pub mod Turns

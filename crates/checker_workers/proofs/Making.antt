@@ -26,7 +26,7 @@ use Rattle.checker_workers.specs.Ports.{PortView, AreAtReset, MakesEvent, own_ev
 pub few_units : (us : List UnitState) → AreAtReset us → length us ≤ 4
 few_units us r = let few = r.few in let e = ap length r.is in omega (arith, length-map r.shapes unit_at_reset)
 
-reply_of_event : (k : ℕ) (us : List UnitState) (e : Event) → IsValidEvent e → reply_to_word us k (word_of e) ≡ (event_step k us e).1
+pub reply_of_event : (k : ℕ) (us : List UnitState) (e : Event) → IsValidEvent e → reply_to_word us k (word_of e) ≡ (event_step k us e).1
 reply_of_event k us e valid = ap (λ (o : Option Event). (decoded_step k us o).1) (event_at-word_of e valid)
 
 pub makes_event : (p q : PortView) (e : Event) (r : Reply) → AfterCall state_after_word reply_to_word p (word_of e) r q → IsValidEvent e → caller_of e ≡ p.number → MakesEvent p e r q

@@ -1,5 +1,5 @@
 -- The record of a section as its commands are played.
-use Rattle.std.proofs.Common.{◌≡◌, ℕ, suc, ◌+◌, ◌<◌, ◌≤◌, Bool, true, false, cond, List, [], ◌∷◌, ◌++◌, length, get_or, drop, sum_by, count_by, Option, Some, None, if◌then◌else◌, refl, sym, ap, ◌∙◌, subst, arith, append_assoc, append-nil, add-one}
+use Rattle.std.proofs.Common.{◌≡◌, ℕ, suc, ◌+◌, ◌<◌, ◌≤◌, Bool, true, false, not, cond, List, [], ◌∷◌, ◌++◌, length, get_or, drop, sum_by, count_by, Option, Some, None, if◌then◌else◌, refl, sym, ap, ◌∙◌, subst, arith, append_assoc, append-nil, add-one}
 use Rattle.std.specs.List.{AllByRecursion}
 use Rattle.std.proofs.Math.Seq.{drop-cons}
 use Rattle.std.proofs.lemmas.List.{drop_all}
@@ -103,6 +103,10 @@ playing_next p q s all i table after count capacity count' capacity' command b e
   enough = let t = subst (λ (cs : List Command). sum_by most_events cs ≤ q.left) e b.enough in let f = k.few in let l = k.adds.left in omega (arith, sum_by-cons most_events command (drop (i + 1) all));
   room = let t = counted command (drop (i + 1) all) count capacity (subst (λ (cs : List Command). count + count_by is_submit cs ≤ capacity) e b.room) in omega arith;
 }
+
+-- the answer whether the section goes on
+pub goes_as : (q s : PortView) (table after : Table) (command : Command) (goes b : Bool) → goes ≡ b → PlaysCommand q table command s after (not goes) → PlaysCommand q table command s after (not b)
+goes_as q s table after command goes b is k = subst (λ (t : Bool). PlaysCommand q table command s after (not t)) is k
 
 -- ---- the end
 

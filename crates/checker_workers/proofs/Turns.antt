@@ -19,7 +19,7 @@ use Rattle.checker_workers.specs.Ports.{PortView, MakesEvent, own_events, logged
 use Rattle.checker_workers.specs.TicketViews.{TicketView}
 use Rattle.checker_workers.specs.Tickets.{IsOpenTicket, Judges, is_end, judged_reply}
 use Rattle.checker_workers.specs.Pieces.{MakesEvents, Polls, SettlesTicket}
-use Rattle.checker_workers.proofs.Judging.{judgement}
+use Rattle.checker_workers.proofs.Standing.{judgement}
 use Rattle.checker_workers.proofs.Repeats.{judgements_left, judgements-held, judgements-last, polls_left, polls-missed, polls-hit}
 
 -- ---- events one after another

@@ -10,6 +10,7 @@ use Rattle.event_words.specs.Records.{section_end, end_from}
 use Rattle.event_words.specs.Sections.{SectionOf, IsValidSection, NamesOnlyUnits, events_of}
 use Rattle.checker_workers.specs.declared.lane.LaneEnd.{LaneEnd}
 use Rattle.checker_workers.specs.declared.lane.LaneEnd.TheVariants.{Fresh, Done, Stopped}
+use Rattle.shared_log.specs.Callers.{SharedView, Belongs}
 use Rattle.checker_workers.specs.Ports.{PortView, unit_count}
 use Rattle.checker_workers.specs.TicketViews.{TicketView}
 use Rattle.checker_workers.specs.Pieces.{MakesEvents}
@@ -70,3 +71,7 @@ abbrev pub IsLane : LaneEnd → SectionOf → PortView → List (Option TicketVi
 IsLane Fresh section p table room = IsReady section p table room
 IsLane Done section p table room = Unit {0}
 IsLane Stopped section p table room = Unit {0}
+
+-- A lane may run on this log: it is fresh, and its port's caller belongs to the log.
+abbrev pub MayRun : SharedView → LaneView → Type 0
+MayRun s l = (l.ended ≡ Fresh) × Belongs l.port s

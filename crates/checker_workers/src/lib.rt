@@ -2,12 +2,14 @@
 //! submissions, and lanes that run beside each other.
 #![tactic(auto)]
 
+mod beside;
 mod gate;
 mod lane;
 mod pieces;
 mod port;
 mod ticket;
 
+pub use beside::run_lanes;
 pub use gate::{FreeGate, Gate};
 pub use lane::{Lane, LaneEnd, NoMemory};
 pub use port::Port;

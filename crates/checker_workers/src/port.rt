@@ -4,6 +4,7 @@ ghost use Rattle.event_words.specs.declared.event.Event.TheVariants as events;
 ghost use Rattle.event_words.specs.declared.reply.Reply.TheVariants as replies;
 ghost use Rattle.event_words.specs.Valid.{IsValidAccess, IsValidEvent};
 ghost use Rattle.event_words.specs.Events.{caller_of};
+ghost use Rattle.shared_log.specs.Words.{AllEventWords};
 ghost use Rattle.shared_log.specs.Callers.{Belongs};
 ghost use Rattle.checker_workers.specs.Ports.{AreAtReset, MakesEvent, unit_count, is_value};
 ghost use Rattle.checker_workers.specs.Tickets.{IsOpenTicket, Judges, HandsOut, submitted_reply, last_ticket};
@@ -71,6 +72,7 @@ impl Port {
         requires caller { caller_of event ≡ self.old.number }
         ensures event { MakesEvent self.old event result self.new }
         ensures reset { AreAtReset self.old.first }
+        ensures words { AllEventWords self.new.log }
     {
         self.caller.call(shared, event)
     }
