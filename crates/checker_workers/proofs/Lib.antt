@@ -7,3 +7,4 @@ pub mod Tables
 pub mod Turns
 pub mod Commands
 pub mod Playing
+pub mod Crossing
