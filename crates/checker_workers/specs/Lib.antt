@@ -4,3 +4,4 @@ pub mod Tickets
 pub mod Slots
 pub mod Pieces
 pub mod Lanes
+pub mod Trials

@@ -7,6 +7,8 @@ mod gate;
 mod lane;
 mod pieces;
 mod port;
+#[cfg(test)]
+mod tests;
 mod ticket;
 
 pub use beside::run_lanes;

@@ -164,11 +164,7 @@ pub(crate) fn play_command<G: Gate>(
     ensures capacity { vec_capacity table.new ≡ vec_capacity table.old }
 {
     match command {
-        Command::Write {
-            unit,
-            index,
-            value,
-        } => {
+        Command::Write { unit, index, value } => {
             tell(gate, port, first);
             port.write(shared, unit, index, value);
             true
