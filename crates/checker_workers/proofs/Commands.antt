@@ -1,6 +1,5 @@
 -- What each command adds to the record of a section.
-use Rattle.std.proofs.Common.{◌≡◌, ◌≢◌, ℕ, ◌+◌, ◌-◌, ◌<◌, ◌≤◌, Bool, true, false, not, cond, List, [], ◌∷◌, ◌++◌, length, get_or, set, Option, Some, None, refl, sym, ap, ◌∙◌, subst, arith, length-append}
-use Rattle.std.specs.List.{list_any}
+use Rattle.std.proofs.Common.{◌≡◌, ℕ, ◌-◌, ◌<◌, ◌≤◌, Bool, false, not, List, [], ◌∷◌, ◌++◌, length, get_or, set, Option, Some, None, refl, sym, ap, ◌∙◌, subst, arith, length-append}
 use Rattle.std.proofs.lemmas.List.{set-get_or}
 use Rattle.event_words.specs.declared.access.Access.{Access}
 use Rattle.event_words.specs.declared.event.Event.{Event}
@@ -12,19 +11,19 @@ use Rattle.event_words.specs.declared.record.LoggedEvent.{LoggedEvent}
 use Rattle.event_words.specs.declared.section.Command.{Command}
 use Rattle.event_words.specs.declared.section.Command.TheVariants as commands
 use Rattle.event_words.specs.Word.{word_of}
-use Rattle.event_words.specs.Records.{OpenSlot, Cut, one_piece, submit_piece, settle_piece, settled, until_piece, opened_slot, slot_of, is_taken, first_as, judgements}
+use Rattle.event_words.specs.Records.{OpenSlot, Cut, one_piece, submit_piece, settle_piece, settled, until_piece, opened_slot, slot_of, judgements}
 use Rattle.event_words.specs.Sections.{NamesUnits}
 use Rattle.checker_workers.specs.declared.ticket.Submitted.{Submitted}
 use Rattle.checker_workers.specs.declared.ticket.Submitted.TheVariants as submitted
 use Rattle.checker_workers.specs.declared.ticket.Judged.TheVariants.{Done, Held}
-use Rattle.checker_workers.specs.Ports.{PortView, MakesEvent, logged_at, unit_count}
+use Rattle.checker_workers.specs.Ports.{PortView, MakesEvent, unit_count}
 use Rattle.checker_workers.specs.TicketViews.{TicketView}
-use Rattle.checker_workers.specs.Tickets.{IsOpenTicket, HandsOut, is_end, submitted_reply, last_ticket}
+use Rattle.checker_workers.specs.Tickets.{IsOpenTicket, HandsOut, submitted_reply, last_ticket}
 use Rattle.checker_workers.specs.Slots.{slots_of, slot_of_ticket, IsJudgeable, IsTicketTable}
-use Rattle.checker_workers.specs.Pieces.{MakesEvents, Polls, SettlesTicket, PlaysSlot, PlaysCommand, cut_to, ticket_of}
+use Rattle.checker_workers.specs.Pieces.{Polls, SettlesTicket, PlaysSlot, PlaysCommand, cut_to, ticket_of}
 use Rattle.checker_workers.proofs.Repeats.{first_as-cons}
 use Rattle.checker_workers.proofs.Tables.{slot_of-slots, slots_of-append, slots_of-set, set_back, table_without, table_kept, table_back, table_pushed, others_apart, IsNewSlot}
-use Rattle.checker_workers.proofs.Turns.{made_by, makes_none, makes_one, ends_other, none_more, same_count, same_number}
+use Rattle.checker_workers.proofs.Turns.{made_by, makes_none, makes_one, ends_other, none_more}
 
 abbrev Table : Type 0
 Table = List (Option TicketView)

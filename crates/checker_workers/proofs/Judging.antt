@@ -1,10 +1,7 @@
 -- What a judgement of an open ticket replies.
-use Rattle.std.proofs.Common.{◌≡◌, ℕ, ◌<◌, Bool, true, false, cond, List, [], ◌∷◌, ◌++◌, length, Option, Some, None, find, refl, sym, ap, ◌∙◌, subst, ⊎_elim}
-use Rattle.std.specs.Prelude.{◌&&◌, slice_get, nat_lt}
-use Rattle.std.specs.List.{list_any}
+use Rattle.std.proofs.Common.{◌≡◌, ℕ, ◌<◌, Bool, true, false, cond, [], ◌∷◌, ◌++◌, length, Option, Some, None, find, refl, sym, ap, ◌∙◌, ⊎_elim}
+use Rattle.std.specs.Prelude.{nat_lt}
 use Rattle.std.proofs.lemmas.Bool.{and_right, or_from}
-use Rattle.event_words.specs.declared.event.Event.{Event}
-use Rattle.event_words.specs.declared.event.Event.TheVariants as events
 use Rattle.event_words.specs.declared.reply.Decision.{Decision}
 use Rattle.event_words.specs.declared.reply.Decision.TheVariants as decisions
 use Rattle.event_words.specs.declared.reply.Verdict.{Verdict}
@@ -13,19 +10,18 @@ use Rattle.event_words.specs.declared.reply.Reply.TheVariants as replies
 use Rattle.event_words.specs.declared.access.Access.{Access}
 use Rattle.event_words.specs.declared.record.LoggedEvent.{LoggedEvent}
 use Rattle.event_words.specs.Decisions.{decision}
-use Rattle.event_words.specs.Events.{same_event, unit_of}
+use Rattle.event_words.specs.Events.{same_event}
 use Rattle.event_words.specs.Records.{is_held, is_verdict}
 use Rattle.unit_core.specs.declared.Submission.{Submission}
 use Rattle.unit_core.specs.Submissions.{is_item}
-use Rattle.unit_core.specs.Units.{UnitState, unit_step, judge_step, judge_item, verdict_step, closed}
+use Rattle.unit_core.specs.Units.{UnitState, judge_item, verdict_step, closed}
 use Rattle.event_words.specs.Valid.{IsValidEvent}
 use Rattle.shared_log.specs.Words.{AllEventWords}
-use Rattle.checker_workers.specs.declared.ticket.Judged.{Judged}
 use Rattle.checker_workers.specs.declared.ticket.Judged.TheVariants.{Done, Held}
-use Rattle.checker_workers.specs.Ports.{PortView, AreAtReset, MakesEvent, own_events, units_after, unit_count, logged_at}
+use Rattle.checker_workers.specs.Ports.{PortView, AreAtReset, MakesEvent, units_after, unit_count, logged_at}
 use Rattle.checker_workers.specs.TicketViews.{TicketView}
-use Rattle.checker_workers.specs.Tickets.{IsOpenTicket, Judges, is_end, is_in_queue, unit_queues, item_waits, judged_reply}
-use Rattle.checker_workers.proofs.Making.{Answers, answers, with_reply}
+use Rattle.checker_workers.specs.Tickets.{IsOpenTicket, Judges, is_end, is_in_queue, unit_queues, item_waits}
+use Rattle.checker_workers.proofs.Making.{answers, with_reply}
 use Rattle.checker_workers.proofs.OpenTickets.{ticket_kept}
 use Rattle.checker_workers.proofs.Standing.{judgement, open_reply}
 use Rattle.history_laws.proofs.TicketReplies.{IsJudged}

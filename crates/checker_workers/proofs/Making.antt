@@ -1,5 +1,5 @@
 -- What a call makes: one event, whose reply is that of its unit.
-use Rattle.std.proofs.Common.{◌≡◌, ℕ, suc, ◌+◌, ◌<◌, ◌≤◌, Bool, true, false, cond, List, [], ◌∷◌, ◌++◌, length, get_or, map, set, Option, Some, None, refl, sym, ap, ◌∙◌, subst, arith, length-append}
+use Rattle.std.proofs.Common.{◌≡◌, ℕ, suc, ◌<◌, ◌≤◌, Bool, true, false, List, [], ◌∷◌, ◌++◌, length, get_or, Option, Some, None, refl, sym, ap, ◌∙◌, subst, arith}
 use Rattle.std.specs.Prelude.{slice_get, nat_lt, not, if◌then◌else◌}
 use Rattle.std.proofs.lemmas.List.{length-map, length-set}
 use Rattle.std.proofs.lemmas.Option.{slice_get-get_or}
@@ -15,7 +15,7 @@ use Rattle.event_words.specs.Guards.{reg}
 use Rattle.event_words.specs.Registers.{has_bit}
 use Rattle.event_words.specs.Valid.{IsValidEvent}
 use Rattle.event_words.specs.Word.{word_of, event_at}
-use Rattle.event_words.specs.Runs.{run_from, run}
+use Rattle.event_words.specs.Runs.{run_from}
 use Rattle.event_words.proofs.Runs.{event_at-word_of}
 use Rattle.unit_core.specs.Units.{UnitState, unit_at_reset, unit_step, event_step, step_at, decoded_step, submit_step, is_stalled, queue_length, opened, denied, stall_denial}
 use Rattle.unit_core.specs.Fabrics.{state_after_word, reply_to_word}

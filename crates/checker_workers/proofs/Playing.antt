@@ -1,17 +1,15 @@
 -- The record of a section as its commands are played.
-use Rattle.std.proofs.Common.{◌≡◌, ℕ, suc, ◌+◌, ◌<◌, ◌≤◌, Bool, true, false, not, cond, List, [], ◌∷◌, ◌++◌, length, get_or, drop, sum_by, count_by, Option, Some, None, if◌then◌else◌, refl, sym, ap, ◌∙◌, subst, arith, append_assoc, append-nil, add-one}
+use Rattle.std.proofs.Common.{◌≡◌, ℕ, ◌+◌, ◌<◌, ◌≤◌, Bool, true, false, not, List, [], ◌∷◌, ◌++◌, length, get_or, drop, sum_by, count_by, Option, Some, if◌then◌else◌, refl, sym, ap, ◌∙◌, subst, arith, append_assoc, append-nil, add-one}
 use Rattle.std.specs.List.{AllByRecursion}
 use Rattle.std.proofs.Math.Seq.{drop-cons}
 use Rattle.std.proofs.lemmas.List.{drop_all}
 use Rattle.std.proofs.lemmas.List.Sums.{sum_by-cons}
 use Rattle.unit_core.proofs.Lists.{count_cons}
 use Rattle.event_words.specs.declared.record.LoggedEvent.{LoggedEvent}
-use Rattle.event_words.specs.declared.record.SectionEnd.{SectionEnd}
 use Rattle.event_words.specs.declared.record.SectionEnd.TheVariants as ends
 use Rattle.event_words.specs.declared.section.Command.{Command}
-use Rattle.event_words.specs.Records.{OpenSlot, end_from, piece, after_piece, nothing_left, Cut}
-use Rattle.event_words.specs.Sections.{SectionOf, IsValidCommand, AreValidCommands, NamesUnits, most_events, is_submit}
-use Rattle.shared_log.specs.Callers.{SharedView, Belongs}
+use Rattle.event_words.specs.Records.{end_from, piece, after_piece}
+use Rattle.event_words.specs.Sections.{IsValidCommand, AreValidCommands, NamesUnits, most_events, is_submit}
 use Rattle.checker_workers.specs.declared.lane.LaneEnd.TheVariants.{Done, Stopped}
 use Rattle.checker_workers.specs.Ports.{PortView, unit_count}
 use Rattle.checker_workers.specs.TicketViews.{TicketView}
@@ -19,7 +17,7 @@ use Rattle.checker_workers.specs.Slots.{slots_of, IsTicketTable}
 use Rattle.checker_workers.specs.Pieces.{MakesEvents, PlaysCommand, cut_to}
 use Rattle.checker_workers.specs.Lanes.{IsPlain, PlaysCommands}
 use Rattle.checker_workers.proofs.Tables.{table_empty}
-use Rattle.checker_workers.proofs.Turns.{makes_none, makes_both, same_number, same_count, belongs_still}
+use Rattle.checker_workers.proofs.Turns.{makes_none, makes_both, same_number, same_count}
 
 abbrev Table : Type 0
 Table = List (Option TicketView)

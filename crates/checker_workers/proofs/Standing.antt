@@ -1,5 +1,5 @@
 -- A judgement of an open ticket finds its submission: it replies Held or a verdict.
-use Rattle.std.proofs.Common.{◌≡◌, ℕ, suc, zero, ◌<◌, Bool, true, false, List, [], ◌∷◌, ◌++◌, Some, None, length, map, eqb, refl, sym, ap, ◌∙◌, subst, arith, ⊎_elim, ◌⊎◌, inl, inr}
+use Rattle.std.proofs.Common.{◌≡◌, ℕ, ◌<◌, true, false, List, [], ◌∷◌, ◌++◌, Some, length, map, eqb, refl, sym, ap, ◌∙◌, subst, ⊎_elim, ◌⊎◌, inl, inr}
 use Rattle.std.specs.Prelude.{◌&&◌, slice_get, nat_lt}
 use Rattle.std.specs.List.{AllByRecursion, list_any}
 use Rattle.std.proofs.lemmas.Bool.{and_parts, and_from, eqb-true, eq-eqb, lt-ltb}
@@ -14,7 +14,7 @@ use Rattle.event_words.specs.declared.reply.Verdict.{Verdict}
 use Rattle.event_words.specs.declared.record.LoggedEvent.{LoggedEvent}
 use Rattle.event_words.specs.Word.{word_of}
 use Rattle.event_words.specs.Valid.{IsValidEvent}
-use Rattle.event_words.specs.Events.{same_event, caller_of}
+use Rattle.event_words.specs.Events.{same_event}
 use Rattle.event_words.specs.Records.{is_by, events_by, is_taken, is_verdict}
 use Rattle.event_words.specs.Runs.{IsEventWord, run, logged}
 use Rattle.event_words.proofs.Runs.{events-of-beginning}

@@ -1,6 +1,6 @@
 -- The events of a port that plays a lane, and the loops of a command: up to `max` reads or judgements.
-use Rattle.std.proofs.Common.{◌≡◌, ◌≢◌, ℕ, zero, suc, ◌+◌, ◌-◌, ◌<◌, ◌≤◌, Bool, true, false, List, [], ◌∷◌, ◌++◌, length, Option, Some, refl, sym, ap, ◌∙◌, subst, arith, length-append, append_assoc, append-nil, ne_eqb}
-use Rattle.std.specs.Prelude.{◌&&◌, ◌==◌, nat_lt, bit_and}
+use Rattle.std.proofs.Common.{◌≡◌, ◌≢◌, ℕ, zero, suc, ◌+◌, ◌-◌, ◌<◌, ◌≤◌, true, false, List, [], ◌∷◌, ◌++◌, length, refl, sym, ap, ◌∙◌, subst, arith, length-append, append_assoc, append-nil, ne_eqb}
+use Rattle.std.specs.Prelude.{◌==◌, nat_lt}
 use Rattle.std.specs.List.{list_any}
 use Rattle.std.proofs.lemmas.Bool.{and_left, and_right, or_from}
 use Rattle.std.proofs.lemmas.List.Folds.{list_any-append}
@@ -12,12 +12,12 @@ use Rattle.event_words.specs.declared.reply.Verdict.{Verdict}
 use Rattle.event_words.specs.declared.record.LoggedEvent.{LoggedEvent}
 use Rattle.event_words.specs.Word.{word_of}
 use Rattle.event_words.specs.Events.{same_event}
-use Rattle.event_words.specs.Records.{judgements, polls, hits, is_held, is_verdict}
+use Rattle.event_words.specs.Records.{judgements, polls, hits, is_verdict}
 use Rattle.shared_log.specs.Callers.{SharedView, Belongs}
 use Rattle.checker_workers.specs.declared.ticket.Judged.TheVariants.{Done, Held}
 use Rattle.checker_workers.specs.Ports.{PortView, MakesEvent, own_events, logged_at, unit_count}
 use Rattle.checker_workers.specs.TicketViews.{TicketView}
-use Rattle.checker_workers.specs.Tickets.{IsOpenTicket, Judges, is_end, judged_reply}
+use Rattle.checker_workers.specs.Tickets.{IsOpenTicket, Judges, is_end}
 use Rattle.checker_workers.specs.Pieces.{MakesEvents, Polls, SettlesTicket}
 use Rattle.checker_workers.proofs.Standing.{judgement}
 use Rattle.checker_workers.proofs.Repeats.{judgements_left, judgements-held, judgements-last, polls_left, polls-missed, polls-hit}
