@@ -1,0 +1,10 @@
+pub mod Making
+pub mod OpenTickets
+pub mod Repeats
+pub mod Standing
+pub mod Judging
+pub mod Tables
+pub mod Turns
+pub mod Commands
+pub mod Playing
+pub mod Crossing

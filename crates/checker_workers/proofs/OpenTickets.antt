@@ -1,0 +1,85 @@
+-- How tickets stay open as events come.
+use Rattle.std.proofs.Common.{◌≡◌, ℕ, suc, ◌+◌, ◌-◌, ◌≤◌, Bool, true, false, List, [], ◌∷◌, ◌++◌, length, Option, Some, None, eqb, refl, sym, ap, ◌∙◌, subst, arith, length-append, eq-eqb}
+use Rattle.std.specs.Prelude.{◌&&◌, ◌||◌, nat_lt}
+use Rattle.std.specs.List.{list_any}
+use Rattle.std.proofs.lemmas.Bool.Decides.{nat_tests}
+use Rattle.std.proofs.lemmas.Bool.{and_from, or_from, cond_both}
+use Rattle.std.proofs.lemmas.List.Folds.{list_any-append}
+use Rattle.event_words.specs.declared.access.Access.{Access}
+use Rattle.event_words.specs.declared.event.Event.{Event}
+use Rattle.event_words.specs.declared.event.Event.TheVariants as events
+use Rattle.event_words.specs.declared.reply.Reply.{Reply}
+use Rattle.event_words.specs.declared.record.LoggedEvent.{LoggedEvent}
+use Rattle.event_words.specs.Word.{event_at, word_of}
+use Rattle.event_words.specs.Events.{same_event}
+use Rattle.event_words.specs.Runs.{logged_from, logged_first}
+use Rattle.event_words.specs.Records.{events_by, is_by, is_taken, is_verdict}
+use Rattle.unit_core.specs.Units.{UnitState}
+use Rattle.unit_core.specs.Fabrics.{state_after_word, reply_to_word}
+use Rattle.checker_workers.specs.Ports.{PortView, own_events, MakesEvent, logged_at}
+use Rattle.checker_workers.specs.TicketViews.{TicketView}
+use Rattle.checker_workers.specs.Tickets.{IsOpenTicket, is_submission, is_end, submits_on, last_ticket}
+
+-- ---- no event stands past the end of the log
+
+lt-false : (a b : ℕ) → b ≤ a → nat_lt a b ≡ false
+lt-false a b h = search (nat_tests, arith)
+
+ends_none : (t : TicketView) (x : LoggedEvent) → x.place ≤ t.place → is_end t x ≡ false
+ends_none t x h = ap (λ (b : Bool). b && (same_event (events.Judge t.unit t.caller t.place) x.event && is_verdict x.reply)) (lt-false t.place x.place h)
+
+by-cons : (t : TicketView) (c : ℕ) (x : LoggedEvent) (xs : List LoggedEvent) → x.place ≤ t.place → list_any (is_end t) (events_by c xs) ≡ false → list_any (is_end t) (events_by c (x ∷ xs)) ≡ false
+by-cons t c x xs h rest =
+    cond_both (is_by c x) (x ∷ events_by c xs) (events_by c xs) (λ ys. list_any (is_end t) ys ≡ false)
+    (λ e. or_from (is_end t x) (list_any (is_end t) (events_by c xs)) (ends_none t x h) rest)
+    (λ e. rest)
+
+first-ends : (t : TicketView) (c k : ℕ) (r : Reply) (o : Option Event) (xs : List LoggedEvent) → k ≤ t.place → list_any (is_end t) (events_by c xs) ≡ false → list_any (is_end t) (events_by c (logged_first k r o xs)) ≡ false
+first-ends t c k r None xs h rest = rest
+first-ends t c k r (Some e) xs h rest = by-cons t c (record { place = k; event = e; reply = r }) xs h rest
+
+none_ends : (t : TicketView) (c k : ℕ) (us : List UnitState) (ws : List ℕ) → k + length ws ≤ t.place → list_any (is_end t) (events_by c (logged_from state_after_word reply_to_word k us ws)) ≡ false
+none_ends t c k us [] h = refl
+none_ends t c k us (w ∷ ws) h = first-ends t c k (reply_to_word us k w) (event_at w) (logged_from state_after_word reply_to_word (suc k) (state_after_word us k w) ws) (omega arith) (none_ends t c (suc k) (state_after_word us k w) ws (omega arith))
+
+-- ---- one more event
+
+one : {X : Type 0} (f : X → Bool) (xs : List X) (x : X) → list_any f (xs ++ x ∷ []) ≡ (list_any f xs || (f x || false))
+one f xs x = list_any-append f xs (x ∷ [])
+
+-- The ticket of a submission that was just taken is open.
+pub new_ticket : (p q : PortView) (unit : ℕ) (a : Access) (r : Reply) → MakesEvent p (events.Submit unit p.number a) r q → is_taken r ≡ true → IsOpenTicket q (last_ticket q unit)
+new_ticket p q unit a r m taken =
+    let words : List ℕ = p.log ++ m.between in
+    let number : q.number ≡ p.number = ap (λ (v : PortView). v.number) m.same in
+    let place : length q.log - 1 ≡ length words = let e = ap length m.log in omega (arith, length-append words (word_of (events.Submit unit p.number a) ∷ [])) in
+    let t : TicketView = record { unit = unit; place = length words; caller = p.number } in
+    let is : last_ticket q unit ≡ t = ap (λ (n : ℕ). record { unit = unit; place = n; caller = q.number }) place ∙ ap (λ (n : ℕ). record { unit = unit; place = length words; caller = n }) number in
+    let x : LoggedEvent = logged_at (length words) (events.Submit unit p.number a) r in
+    let submitted : is_submission t x ≡ true =
+    and_from (eqb (length words) (length words)) _ (eq-eqb (length words) (length words) refl)
+    (and_from (submits_on unit p.number (events.Submit unit p.number a)) (is_taken r) (and_from (eqb unit unit) (eqb p.number p.number) (eq-eqb unit unit refl) (eq-eqb p.number p.number refl)) taken) in
+    let before : list_any (is_end t) (own_events p) ≡ false = none_ends t p.number 0 p.first p.log (omega (arith, length-append p.log m.between)) in
+    subst (λ (v : TicketView). IsOpenTicket q v) (sym is) (record {
+      caller = sym number;
+      taken = ap (list_any (is_submission t)) m.own ∙ one (is_submission t) (own_events p) x ∙ any_last (list_any (is_submission t) (own_events p)) (is_submission t x) submitted;
+      open_still = ap (list_any (is_end t)) m.own ∙ one (is_end t) (own_events p) x ∙ or_from _ _ before (or_from _ _ (ends_none t x (omega arith)) refl);
+    })
+  where
+    any_last : (b c : Bool) → c ≡ true → (b || (c || false)) ≡ true
+    any_last true c h = refl
+    any_last false c h = ap (λ (d : Bool). d || false) h
+
+-- Events among which there is no verdict on it leave a ticket open.
+pub ticket_kept : (p q : PortView) (made : List LoggedEvent) (t : TicketView) → own_events q ≡ own_events p ++ made → q.number ≡ p.number → list_any (is_end t) made ≡ false → IsOpenTicket p t → IsOpenTicket q t
+ticket_kept p q made t own number none h = record {
+  caller = h.caller ∙ sym number;
+  taken = ap (list_any (is_submission t)) own ∙ list_any-append (is_submission t) (own_events p) made ∙ ap (λ (b : Bool). b || list_any (is_submission t) made) h.taken;
+  open_still = ap (list_any (is_end t)) own ∙ list_any-append (is_end t) (own_events p) made ∙ or_from _ _ h.open_still none;
+}
+
+-- what a taken submission hands out
+pub handed_out : (p q : PortView) (unit caller : ℕ) (a : Access) (r : Reply) (t : TicketView) → MakesEvent p (events.Submit unit caller a) r q → caller ≡ p.number → is_taken r ≡ true → t ≡ last_ticket q unit
+    → (t ≡ last_ticket q unit) × IsOpenTicket q t
+handed_out p q unit caller a r t m own taken is =
+    (is, subst (IsOpenTicket q) (sym is) (new_ticket p q unit a r (subst (λ (n : ℕ). MakesEvent p (events.Submit unit n a) r q) own m) taken))

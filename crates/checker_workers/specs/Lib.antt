@@ -1,0 +1,7 @@
+pub mod Ports
+pub mod TicketViews
+pub mod Tickets
+pub mod Slots
+pub mod Pieces
+pub mod Lanes
+pub mod Trials

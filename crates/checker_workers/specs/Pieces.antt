@@ -1,0 +1,66 @@
+-- What the commands of a lane make.
+use Rattle.std.specs.Prelude.{◌≡◌, ◌≢◌, ℕ, ◌+◌, ◌≤◌, Bool, false, Option, Some, None, List, ◌++◌, length}
+use Rattle.std.specs.List.{list_any}
+use Rattle.event_words.specs.declared.event.Event.{Event}
+use Rattle.event_words.specs.declared.event.Event.TheVariants as events
+use Rattle.event_words.specs.declared.record.LoggedEvent.{LoggedEvent}
+use Rattle.event_words.specs.declared.section.Command.{Command}
+use Rattle.event_words.specs.Sections.{most_events}
+use Rattle.event_words.specs.Records.{judgements, polls, piece, settle_piece, slot_of, Cut}
+use Rattle.checker_workers.specs.declared.ticket.Judged.{Judged}
+use Rattle.checker_workers.specs.declared.ticket.Submitted.{Submitted}
+use Rattle.checker_workers.specs.declared.ticket.Submitted.TheVariants.{Passed, Queued, Busy, Stalled}
+use Rattle.checker_workers.specs.Ports.{PortView, own_events}
+use Rattle.checker_workers.specs.TicketViews.{TicketView}
+use Rattle.checker_workers.specs.Tickets.{is_end, judged_reply, HandsBack}
+use Rattle.checker_workers.specs.Slots.{slots_of, IsTicketTable}
+
+-- The port's caller made exactly these events more. Nothing else changed but its replica.
+pub record MakesEvents (p : PortView) (made : List LoggedEvent) (q : PortView) : Type 0 where
+  pub own : own_events q ≡ own_events p ++ made
+  pub left : q.left + length made ≡ p.left
+  pub grown : length p.log ≤ length q.log
+  pub same : q ≡ record p { log = q.log; left = q.left; machine = q.machine }
+
+-- Up to `max` judgements of a ticket.
+pub record SettlesTicket (p : PortView) (t : TicketView) (max : ℕ) (judged : Judged) (q : PortView) : Type 0 where
+  pub made : List LoggedEvent
+  pub adds : MakesEvents p made q
+  pub few : length made ≤ max
+  pub record_is : (rest : List LoggedEvent) → judgements max (events.Judge t.unit t.caller t.place) (made ++ rest) ≡ Some (judged_reply judged, rest)
+  pub others : (u : TicketView) → u.place ≢ t.place → list_any (is_end u) made ≡ false
+  pub ticket : HandsBack q t judged
+
+-- Up to `max` reads, the last of which hits or doesn't.
+pub record Polls (p : PortView) (event : Event) (mask value max : ℕ) (hit : Bool) (q : PortView) : Type 0 where
+  pub made : List LoggedEvent
+  pub adds : MakesEvents p made q
+  pub few : length made ≤ max
+  pub record_is : (rest : List LoggedEvent) → polls max event mask value (made ++ rest) ≡ Some (hit, rest)
+  pub others : (u : TicketView) → list_any (is_end u) made ≡ false
+
+abbrev pub cut_to : List (Option TicketView) → Bool → List LoggedEvent → Cut
+cut_to table stops rest = record { slots = slots_of table; rest = rest; stops = stops }
+
+-- The judgements of a slot, of which there are up to `max` where it has a ticket.
+pub record PlaysSlot (p : PortView) (table : List (Option TicketView)) (i max : ℕ) (q : PortView) (after : List (Option TicketView)) : Type 0 where
+  pub made : List LoggedEvent
+  pub adds : MakesEvents p made q
+  pub few : length made ≤ max
+  pub record_is : (rest : List LoggedEvent) → settle_piece p.number max (slots_of table) i (slot_of (slots_of table) i) (made ++ rest) ≡ Some (cut_to after false rest)
+  pub tickets : IsTicketTable q after
+
+-- A command's piece. The table's tickets become those of the other table.
+pub record PlaysCommand (p : PortView) (table : List (Option TicketView)) (command : Command) (q : PortView) (after : List (Option TicketView)) (stops : Bool) : Type 0 where
+  pub made : List LoggedEvent
+  pub adds : MakesEvents p made q
+  pub few : length made ≤ most_events command
+  pub record_is : (rest : List LoggedEvent) → piece p.number (slots_of table) command (made ++ rest) ≡ Some (cut_to after stops rest)
+  pub tickets : IsTicketTable q after
+
+-- the ticket that a submission hands out
+abbrev pub ticket_of : Submitted → Option TicketView
+ticket_of (Passed t) = Some t
+ticket_of (Queued t) = Some t
+ticket_of Busy = None
+ticket_of (Stalled denial) = None

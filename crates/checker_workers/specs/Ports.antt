@@ -1,0 +1,58 @@
+-- What contracts see of a port, and what one event of a port does.
+use Rattle.std.specs.Prelude.{◌≡◌, Bool, true, false, ℕ, ◌+◌, ◌≤◌, List, [], ◌∷◌, ◌++◌, length, map}
+use Rattle.std.specs.List.{AllByRecursion}
+use Rattle.event_words.specs.declared.shape.Shape.{Shape}
+use Rattle.event_words.specs.declared.event.Event.{Event}
+use Rattle.event_words.specs.declared.reply.Reply.{Reply}
+use Rattle.event_words.specs.declared.reply.Reply.TheVariants as replies
+use Rattle.event_words.specs.declared.record.LoggedEvent.{LoggedEvent}
+use Rattle.event_words.specs.Valid.{IsValidShape}
+use Rattle.event_words.specs.Word.{word_of}
+use Rattle.event_words.specs.Runs.{run, logged}
+use Rattle.event_words.specs.Records.{events_by}
+use Rattle.unit_core.specs.Units.{UnitState, unit_at_reset, event_step}
+use Rattle.unit_core.specs.Fabrics.{FabricState, state_after_word, reply_to_word}
+use Rattle.shared_log.specs.Callers.{CallerView}
+use Rattle.shared_log.specs.Words.{words_by}
+
+-- A port is seen as its caller.
+abbrev pub PortView : Type 0
+PortView = CallerView FabricState (List UnitState)
+
+-- The units at opening: one to four of valid shapes, at reset.
+pub record AreAtReset (units : List UnitState) : Type 0 where
+  pub shapes : List Shape
+  pub some : 1 ≤ length shapes
+  pub few : length shapes ≤ 4
+  pub valid : AllByRecursion IsValidShape shapes
+  pub is : units ≡ map unit_at_reset shapes
+
+-- the number of the units
+abbrev pub unit_count : PortView → ℕ
+unit_count p = length p.first
+
+-- The units after these words.
+abbrev pub units_after : PortView → List ℕ → List UnitState
+units_after p words = run state_after_word p.first words
+
+-- The events that the port's caller made, each with its place and its reply.
+abbrev pub own_events : PortView → List LoggedEvent
+own_events p = events_by p.number (logged state_after_word reply_to_word p.first p.log)
+
+abbrev pub logged_at : ℕ → Event → Reply → LoggedEvent
+logged_at place event reply = record { place = place; event = event; reply = reply }
+
+-- An event of the port's caller, after events of others. Its reply is that of the units at its place.
+-- Nothing else changes but the replica of the units and what is left of the budget.
+pub record MakesEvent (p : PortView) (event : Event) (reply : Reply) (q : PortView) : Type 0 where
+  pub between : List ℕ
+  pub others : words_by p.number between ≡ []
+  pub log : q.log ≡ (p.log ++ between) ++ word_of event ∷ []
+  pub answered : reply ≡ (event_step (length (p.log ++ between)) (units_after p (p.log ++ between)) event).1
+  pub own : own_events q ≡ own_events p ++ logged_at (length (p.log ++ between)) event reply ∷ []
+  pub left : q.left + 1 ≡ p.left
+  pub same : q ≡ record p { log = q.log; left = q.left; machine = q.machine }
+
+abbrev pub is_value : Reply → Bool
+is_value (replies.Value n) = true
+is_value _ = false

@@ -1,0 +1,14 @@
+// What lanes tell of their steps.
+
+/// What a lane calls before each of its events, with the number of its caller and the number of the
+/// event in the lane, from 0, and once more at its end, with the number of its events.
+pub trait Gate {
+    fn at(&self, lane: u8, step: u32);
+}
+
+/// A gate that does nothing.
+pub struct FreeGate;
+
+impl Gate for FreeGate {
+    fn at(&self, _lane: u8, _step: u32) {}
+}

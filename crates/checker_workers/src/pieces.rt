@@ -1,0 +1,208 @@
+// The commands of a lane, one piece of its record each. `first` is what was left of the port's budget
+// when the lane began, by which events are numbered.
+ghost use Rattle.std.specs.Prelude.{◌≡◌, ◌+◌, ◌<◌, ◌≤◌, ◌^◌, not, true, length, vec_len, vec_capacity, slice_index_or, slice_set, if◌then◌else◌};
+ghost use Rattle.event_words.specs.declared.event.Event.TheVariants as events;
+ghost use Rattle.event_words.specs.declared.section.Command.TheVariants as commands;
+ghost use Rattle.event_words.specs.Sections.{IsValidCommand, NamesUnits, most_events, is_submit};
+ghost use Rattle.event_words.specs.Valid.{IsValidAccess};
+ghost use Rattle.shared_log.specs.Callers.{Belongs};
+ghost use Rattle.checker_workers.specs.Ports.{unit_count};
+ghost use Rattle.checker_workers.specs.Tickets.{IsOpenTicket};
+ghost use Rattle.checker_workers.specs.Slots.{IsTicketTable};
+ghost use Rattle.checker_workers.specs.Pieces.{Polls, SettlesTicket, PlaysSlot, PlaysCommand, ticket_of};
+ghost use Rattle.checker_workers.specs.Lanes.{IsPlain};
+
+use crate::gate::Gate;
+use crate::port::Port;
+use crate::ticket::{Judged, Submitted, Ticket};
+use event_words::{Access, Command};
+use shared_log::Shared;
+
+// Tells the gate of the next event.
+pub(crate) fn tell<G: Gate>(gate: &G, port: &Port, first: u32)
+    requires { port.now.left ≤ first }
+{
+    gate.at(port.number(), first - port.left());
+}
+
+// A register, and what its value must have in the bits of a mask.
+#[derive(Clone, Copy)]
+pub(crate) struct Watch {
+    pub(crate) unit: u8,
+    pub(crate) index: u32,
+    pub(crate) mask: u32,
+    pub(crate) value: u32,
+}
+
+// Reads a register up to `max` times, until it hits. It answers whether the last read did.
+fn poll<G: Gate>(
+    port: &mut Port,
+    shared: &Shared,
+    gate: &G,
+    first: u32,
+    watch: Watch,
+    max: u32,
+) -> bool
+    requires belongs { Belongs port.old shared.now }
+    requires left { max ≤ port.old.left }
+    requires first { port.old.left ≤ first }
+    requires some { 1 ≤ max }
+    requires unit { watch.unit < unit_count port.old }
+    requires index { watch.index < 2 ^ 22 }
+    ensures { Polls port.old (events.RegRead watch.unit port.old.number watch.index) watch.mask watch.value max result port.new }
+{
+    for _i in 0..max {
+        tell(gate, port, first);
+        let word = port.read(shared, watch.unit, watch.index);
+        if word & watch.mask == watch.value {
+            return true;
+        }
+    }
+    false
+}
+
+// Judges a ticket's submission up to `max` times, until the reply isn't Held.
+fn settle<G: Gate>(
+    port: &mut Port,
+    shared: &Shared,
+    gate: &G,
+    first: u32,
+    ticket: Ticket,
+    max: u32,
+) -> Judged
+    requires belongs { Belongs port.old shared.now }
+    requires left { max ≤ port.old.left }
+    requires first { port.old.left ≤ first }
+    requires some { 1 ≤ max }
+    requires unit { ticket.unit < unit_count port.old }
+    requires ticket { IsOpenTicket port.old ticket }
+    ensures { SettlesTicket port.old ticket max result port.new }
+{
+    let mut held = ticket;
+    for _i in 0..max {
+        tell(gate, port, first);
+        match port.judge(shared, held) {
+            Judged::Held(again) => held = again,
+            Judged::Done(verdict) => return Judged::Done(verdict),
+        }
+    }
+    Judged::Held(held)
+}
+
+fn take_ticket(table: &mut [Option<Ticket>], slot: usize) -> Option<Ticket>
+    requires { slot < length table.old }
+    ensures ticket { result ≡ slice_index_or table.old slot None }
+    ensures rest { table.new ≡ slice_set table.old slot None }
+{
+    table[slot].take()
+}
+
+fn put_ticket(table: &mut [Option<Ticket>], slot: usize, ticket: Ticket)
+    requires { slot < length table.old }
+    ensures { table.new ≡ slice_set table.old slot (Some ticket) }
+{
+    table[slot] = Some(ticket);
+}
+
+// Judges the ticket of a slot up to `max` times, where it has one.
+fn settle_slot<G: Gate>(
+    port: &mut Port,
+    table: &mut [Option<Ticket>],
+    shared: &Shared,
+    gate: &G,
+    first: u32,
+    slot: u32,
+    max: u32,
+)
+    requires belongs { Belongs port.old shared.now }
+    requires left { max ≤ port.old.left }
+    requires first { port.old.left ≤ first }
+    requires some { 1 ≤ max }
+    requires slot { slot < length table.old }
+    requires tickets { IsTicketTable port.old table.old }
+    ensures { PlaysSlot port.old table.old slot max port.new table.new }
+{
+    let at = slot as usize;
+    let Some(ticket) = take_ticket(table, at) else {
+        return;
+    };
+    if let Judged::Held(again) = settle(port, shared, gate, first, ticket, max) {
+        put_ticket(table, at, again);
+    }
+}
+
+// The ticket that a submission hands out.
+fn ticket_of(submitted: Submitted) -> Option<Ticket>
+    ensures { result ≡ ticket_of submitted }
+{
+    match submitted {
+        Submitted::Passed(ticket) => Some(ticket),
+        Submitted::Queued(ticket) => Some(ticket),
+        _ => None,
+    }
+}
+
+// Plays one command. It answers whether the section goes on.
+pub(crate) fn play_command<G: Gate>(
+    port: &mut Port,
+    table: &mut Vec<Option<Ticket>>,
+    shared: &Shared,
+    gate: &G,
+    first: u32,
+    command: Command,
+) -> bool
+    requires belongs { Belongs port.old shared.now }
+    requires left { most_events command ≤ port.old.left }
+    requires first { port.old.left ≤ first }
+    requires valid { IsValidCommand (vec_len table.old) command }
+    requires units { NamesUnits (unit_count port.old) command }
+    requires plain { IsPlain command }
+    requires room { is_submit command ≡ true → vec_len table.old < vec_capacity table.old }
+    requires tickets { IsTicketTable port.old table.old.items }
+    ensures plays { PlaysCommand port.old table.old.items command port.new table.new.items (not result) }
+    ensures count { vec_len table.new ≡ (if is_submit command then vec_len table.old + 1 else vec_len table.old) }
+    ensures capacity { vec_capacity table.new ≡ vec_capacity table.old }
+{
+    match command {
+        Command::Write { unit, index, value } => {
+            tell(gate, port, first);
+            port.write(shared, unit, index, value);
+            true
+        }
+        Command::Read { unit, index } => {
+            tell(gate, port, first);
+            port.read(shared, unit, index);
+            true
+        }
+        Command::Submit { unit, access, .. } => {
+            tell(gate, port, first);
+            let slot = ticket_of(port.submit(shared, unit, access));
+            table.push_reserved(slot);
+            true
+        }
+        Command::Judge { slot } => {
+            settle_slot(port, table.as_mut_slice(), shared, gate, first, slot, 1);
+            true
+        }
+        Command::Settle { slot, max } => {
+            settle_slot(port, table.as_mut_slice(), shared, gate, first, slot, max);
+            true
+        }
+        Command::Until {
+            unit,
+            index,
+            mask,
+            value,
+            max,
+        } => {
+            let watch = Watch {
+                unit,
+                index,
+                mask,
+                value,
+            };
+            poll(port, shared, gate, first, watch, max)
+        }
+        Command::Through { .. } => true,
+    }
+}

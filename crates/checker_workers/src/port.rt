@@ -1,0 +1,184 @@
+// One caller's calls on the units, one event each.
+ghost use Rattle.std.specs.Prelude.{◌≡◌, ◌<◌, ◌≤◌, ◌^◌, length, true};
+ghost use Rattle.event_words.specs.declared.event.Event.TheVariants as events;
+ghost use Rattle.event_words.specs.declared.reply.Reply.TheVariants as replies;
+ghost use Rattle.event_words.specs.Valid.{IsValidAccess, IsValidEvent};
+ghost use Rattle.event_words.specs.Events.{caller_of};
+ghost use Rattle.shared_log.specs.Words.{AllEventWords};
+ghost use Rattle.shared_log.specs.Callers.{Belongs};
+ghost use Rattle.checker_workers.specs.Ports.{AreAtReset, MakesEvent, unit_count, is_value};
+ghost use Rattle.checker_workers.specs.Tickets.{IsOpenTicket, Judges, HandsOut, submitted_reply, last_ticket};
+
+use crate::ticket::{Judged, Submitted, Ticket};
+use event_words::{Access, Event, Reply};
+use shared_log::{Caller, Shared};
+use std::marker::Model;
+use unit_core::Fabric;
+
+/// A caller of units, seen as that caller.
+#[derive(Drop)]
+pub struct Port {
+    caller: Caller<Fabric>,
+}
+
+impl Model for Port {
+    ghost use Rattle.checker_workers.specs.Ports.{PortView, AreAtReset};
+
+    ghost Value = { PortView };
+
+    ghost view = { λ p. p.caller };
+
+    ghost invariant = { λ p. AreAtReset p.caller.first };
+}
+
+impl Port {
+    /// The port of a caller whose units were one to four of valid shapes, at reset, at opening.
+    pub fn new(caller: Caller<Fabric>) -> Port
+        requires { AreAtReset caller.first }
+        ensures { result ≡ caller }
+    {
+        Port { caller }
+    }
+
+    /// The caller again.
+    pub fn into_caller(self) -> Caller<Fabric>
+        ensures { result ≡ self }
+    {
+        let Port { caller } = self;
+        caller
+    }
+
+    // The number of the caller, with what holds of every port.
+    pub(crate) fn number(&self) -> u8
+        ensures number { result ≡ self.now.number }
+        ensures small { result < 32 }
+        ensures units { unit_count self.now ≤ 4 }
+    {
+        self.caller.number()
+    }
+
+    // How many events the caller may still make.
+    pub(crate) fn left(&self) -> u32
+        ensures { result ≡ self.now.left }
+    {
+        self.caller.left()
+    }
+
+    // One event of the port's caller.
+    fn make(&mut self, shared: &Shared, event: Event) -> Reply
+        requires belongs { Belongs self.old shared.now }
+        requires left { 1 ≤ self.old.left }
+        requires event { IsValidEvent event }
+        requires caller { caller_of event ≡ self.old.number }
+        ensures event { MakesEvent self.old event result self.new }
+        ensures reset { AreAtReset self.old.first }
+        ensures words { AllEventWords self.new.log }
+    {
+        self.caller.call(shared, event)
+    }
+
+    // The ticket of the last event, a submission on this unit.
+    fn last_ticket(&self, unit: u8) -> Ticket
+        requires unit { unit < 4 }
+        requires some { 1 ≤ length self.now.log }
+        ensures { result ≡ last_ticket self.now unit }
+    {
+        Ticket {
+            unit,
+            place: self.caller.place() - 1,
+            caller: self.caller.number(),
+        }
+    }
+
+    /// Writes a register of a unit, at one place of the history, and answers what it reads right
+    /// after the write. An index is a register's byte offset divided by 4.
+    pub fn write(&mut self, shared: &Shared, unit: u8, index: u32, value: u32) -> u32
+        requires belongs { Belongs self.old shared.now }
+        requires left { 1 ≤ self.old.left }
+        requires unit { unit < unit_count self.old }
+        requires index { index < 2 ^ 22 }
+        ensures { MakesEvent self.old (events.RegWrite unit self.old.number index value) (replies.Value result) self.new }
+    {
+        let caller = self.number();
+        let event = Event::RegWrite {
+            unit,
+            caller,
+            index,
+            value,
+        };
+        value_of(self.make(shared, event))
+    }
+
+    /// Reads a register of a unit at one place of the history, 0 where there is no register. An index
+    /// is a register's byte offset divided by 4.
+    pub fn read(&mut self, shared: &Shared, unit: u8, index: u32) -> u32
+        requires belongs { Belongs self.old shared.now }
+        requires left { 1 ≤ self.old.left }
+        requires unit { unit < unit_count self.old }
+        requires index { index < 2 ^ 22 }
+        ensures { MakesEvent self.old (events.RegRead unit self.old.number index) (replies.Value result) self.new }
+    {
+        let caller = self.number();
+        let event = Event::RegRead {
+            unit,
+            caller,
+            index,
+        };
+        value_of(self.make(shared, event))
+    }
+
+    /// Submits an access on a unit. The answer is that of the unit at the submission's place. A
+    /// ticket that it carries may be judged.
+    pub fn submit(&mut self, shared: &Shared, unit: u8, access: Access) -> Submitted
+        requires belongs { Belongs self.old shared.now }
+        requires left { 1 ≤ self.old.left }
+        requires unit { unit < unit_count self.old }
+        requires access { IsValidAccess access }
+        ensures event { MakesEvent self.old (events.Submit unit self.old.number access) (submitted_reply result) self.new }
+        ensures ticket { HandsOut self.new unit result }
+    {
+        let caller = self.number();
+        let event = Event::Submit {
+            unit,
+            caller,
+            access,
+        };
+        match self.make(shared, event) {
+            Reply::Passed => Submitted::Passed(self.last_ticket(unit)),
+            Reply::Queued => Submitted::Queued(self.last_ticket(unit)),
+            Reply::Stalled(denial) => Submitted::Stalled(denial),
+            _ => Submitted::Busy,
+        }
+    }
+
+    /// Judges the submission of an open ticket. The answer is that of the unit at the judgement's
+    /// place: the ticket comes back exactly where the submission waits in the queue there.
+    pub fn judge(&mut self, shared: &Shared, ticket: Ticket) -> Judged
+        requires belongs { Belongs self.old shared.now }
+        requires left { 1 ≤ self.old.left }
+        requires unit { ticket.unit < unit_count self.old }
+        requires ticket { IsOpenTicket self.old ticket }
+        ensures { Judges self.old ticket result self.new }
+    {
+        let event = Event::Judge {
+            unit: ticket.unit,
+            caller: ticket.caller,
+            place: ticket.place,
+        };
+        match self.make(shared, event) {
+            Reply::Verdict(verdict) => Judged::Done(verdict),
+            _ => Judged::Held(ticket),
+        }
+    }
+}
+
+// The value that a register's write or read replies.
+fn value_of(reply: Reply) -> u32
+    requires { is_value reply ≡ true }
+    ensures { reply ≡ replies.Value result }
+{
+    match reply {
+        Reply::Value(value) => value,
+        _ => 0,
+    }
+}
