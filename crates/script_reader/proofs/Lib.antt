@@ -1,6 +1,7 @@
 pub mod LineSteps
 pub mod Needs
 pub mod Numerals
+pub mod Plain
 pub mod Slots
 pub mod Sounds
 mod Rows

@@ -103,6 +103,18 @@ bad_places :
 unfolding digit_of number_of number_at ranged has_keys translation_at shape_at unit_line is_name slot_at with_name unit_at index_at kind_at access_at stage_at stages_at write_at read_at submit_at judge_at settle_at until_at through_at command_at head_step unit_step boot_step end_step lane_step submit_step command_step units_step section_step words_step line_step
 bad_places = refl
 
+-- lanes
+bad_lanes :
+    map fault_of
+    ((codes "lane 1" ∷ codes "lane 2" ∷ [])
+    ∷ (codes "lane 1" ∷ codes "lane 1" ∷ [])
+    ∷ (codes "lane 1" ∷ codes "lane 3" ∷ [])
+    ∷ (codes "t 0 3 r 0x0 1 as a" ∷ codes "lane 1" ∷ codes "j a" ∷ [])
+    ∷ [])
+    ≡ None ∷ Some (5, 3) ∷ Some (5, 3) ∷ Some (6, 10) ∷ []
+unfolding digit_of number_of number_at ranged has_keys translation_at shape_at unit_line is_name slot_at with_name unit_at index_at kind_at access_at stage_at stages_at write_at read_at submit_at judge_at settle_at until_at through_at command_at head_step unit_step boot_step end_step lane_step submit_step command_step units_step section_step words_step line_step
+bad_lanes = refl
+
 -- ---- scripts without a fault, and whole texts
 
 abbrev slots_of : Result ScriptOf Bad → Option (List Command × ℕ)
@@ -137,3 +149,19 @@ two_slots :
     )
 unfolding digit_of number_of number_at ranged has_keys translation_at shape_at unit_line is_name slot_at with_name unit_at index_at kind_at access_at stage_at stages_at write_at read_at submit_at judge_at settle_at until_at through_at command_at head_step unit_step boot_step end_step lane_step submit_step command_step units_step section_step words_step line_step
 two_slots = refl
+
+-- the commands of each lane, and the most events of a run
+abbrev lanes_of : Result ScriptOf Bad → Option (List (List Command) × ℕ)
+lanes_of (Ok script) = Some (map (λ section. section.commands) script.lanes, need_of script)
+lanes_of (Err bad) = None
+
+two_lanes :
+    lanes_of (script_at (text_of (codes "iopmp 1" ∷ four_requesters ∷ codes "boot" ∷ codes "lane 1" ∷ codes "t 0 3 r 0 4 as a" ∷ codes "j a" ∷ codes "lane 2" ∷ codes "t 0 3 w 0x40 1 as a" ∷ codes "end" ∷ [])))
+    ≡ Some (
+      (Submit 0 (record { rrid = 3; kind = kinds.Read; addr = 0; len = 4 }) 0 ∷ Judge 0 ∷ [])
+          ∷ (Submit 0 (record { rrid = 3; kind = kinds.Write; addr = 64; len = 1 }) 0 ∷ [])
+          ∷ [],
+      6,
+    )
+unfolding digit_of number_of number_at ranged has_keys translation_at shape_at unit_line is_name slot_at with_name unit_at index_at kind_at access_at stage_at stages_at write_at read_at submit_at judge_at settle_at until_at through_at command_at head_step unit_step boot_step end_step lane_step submit_step command_step units_step section_step words_step line_step
+two_lanes = refl

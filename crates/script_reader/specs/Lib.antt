@@ -7,6 +7,7 @@ pub mod Names
 pub mod Commands
 pub mod Lines
 pub mod Scripts
+pub mod Plain
 pub mod Sound
 pub mod Steps
 pub mod Answers

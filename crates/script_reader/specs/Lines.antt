@@ -46,7 +46,7 @@ pub record State : Type 0 where
 -- ---- the forms that are built, by the first word
 
 abbrev pub is_built : List ℕ → Bool
-is_built first = not (bytes_eq first (codes "through") || bytes_eq first (codes "lane"))
+is_built first = not (bytes_eq first (codes "through"))
 
 -- ---- one function for each kind of line
 

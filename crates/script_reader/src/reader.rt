@@ -54,7 +54,7 @@ impl<'a> Model for Reader<'a> {
 fn is_built(first: &[u8]) -> bool
     ensures { result ≡ spec.is_built first.now }
 {
-    first != b"through".as_slice() && first != b"lane".as_slice()
+    first != b"through".as_slice()
 }
 
 fn is_head(words: &Words<'_>) -> bool
