@@ -1,0 +1,11 @@
+//! Policies: what they are, how one is read off a TOML document, what it decides about an access,
+//! and the register writes that make a unit decide the same.
+#![tactic(auto)]
+
+mod path;
+mod policy;
+mod read;
+
+pub use path::{Part, Path, PolicyError};
+pub use policy::{Policy, PolicyDomain, Rule};
+pub use read::read_policy;
