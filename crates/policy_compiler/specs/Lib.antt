@@ -4,3 +4,4 @@ pub mod Tables
 pub mod Rules
 pub mod Reading
 pub mod Gives
+pub mod Decides

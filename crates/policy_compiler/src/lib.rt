@@ -2,10 +2,12 @@
 //! and the register writes that make a unit decide the same.
 #![tactic(auto)]
 
+mod decide;
 mod path;
 mod policy;
 mod read;
 
+pub use decide::policy_kind;
 pub use path::{Part, Path, PolicyError};
 pub use policy::{Policy, PolicyDomain, Rule};
 pub use read::read_policy;
