@@ -5,3 +5,6 @@ pub mod Rules
 pub mod Reading
 pub mod Gives
 pub mod Decides
+pub mod Images
+pub mod Needs
+pub mod Fitting

@@ -3,11 +3,16 @@
 #![tactic(auto)]
 
 mod decide;
+mod hardware;
+mod image;
+mod needs;
 mod path;
 mod policy;
 mod read;
+mod writes;
 
 pub use decide::policy_kind;
+pub use image::{CompileError, Image, RegPair, compile};
 pub use path::{Part, Path, PolicyError};
 pub use policy::{Policy, PolicyDomain, Rule};
 pub use read::read_policy;

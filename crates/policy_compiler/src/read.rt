@@ -12,6 +12,7 @@ mod unit;
 
 use crate::path::Fault;
 use crate::{Part, Path, Policy, PolicyError};
+pub use rules::{RuleKind, is_single};
 use std::alloc::Global;
 use toml::{Table, Value};
 
