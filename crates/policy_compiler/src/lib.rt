@@ -16,3 +16,6 @@ pub use image::{CompileError, Image, RegPair, compile};
 pub use path::{Part, Path, PolicyError};
 pub use policy::{Policy, PolicyDomain, Rule};
 pub use read::read_policy;
+
+#[cfg(test)]
+mod tests;
