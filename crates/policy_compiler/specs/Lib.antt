@@ -8,3 +8,4 @@ pub mod Decides
 pub mod Images
 pub mod Needs
 pub mod Fitting
+pub mod Laws
