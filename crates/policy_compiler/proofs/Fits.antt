@@ -29,7 +29,7 @@ entries_needed : (us : List Rule) → length (entries_of us) ≡ rules_need us
 entries_needed [] = refl
 entries_needed (u ∷ us) = length-append (rule_entries u) (entries_of us) ∙ omega (arith, by_single (is_single u.from u.size) u refl, entries_needed us)
 
-count_append : (hs ks : List HardwareOf) → entry_count (hs ++ ks) ≡ entry_count hs + entry_count ks
+pub count_append : (hs ks : List HardwareOf) → entry_count (hs ++ ks) ≡ entry_count hs + entry_count ks
 count_append [] ks = omega arith
 count_append (h ∷ hs) ks = omega (arith, count_append hs ks)
 
