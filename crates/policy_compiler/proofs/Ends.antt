@@ -6,7 +6,7 @@ use Rattle.std.specs.Int.Bits.{or_zero_l}
 use Rattle.std.specs.List.{range_with_len}
 use Rattle.std.proofs.Math.Nat.{mod-eq_of_lt}
 use Rattle.std.proofs.Math.ListN.{length-set}
-use Rattle.std.proofs.lemmas.Nat.{and_le_r, and_mask, or_mod, and_mod}
+use Rattle.std.proofs.lemmas.Nat.{and_le_r, and_mask, or_mod, and_mod, pow_pos}
 use Rattle.std.proofs.lemmas.List.{get_or-set_same, get_or-set_other}
 use Rattle.std.proofs.lemmas.List.FromFn.{length-map-range_with_len, get_or-map-range_with_len}
 use Rattle.std.proofs.lemmas.Bool.Decides.{nat_tests}
@@ -95,8 +95,49 @@ prio_word r g = merged (guards_of r (Some Hwcfg2)) (word_at r 4) (ruled_word (fi
 pub prio_write : (r : Registers) (g : ℕ) → guarded_write r (pair 4 g) ≡ set_word r 4 (prio_word r g)
 prio_write r g = refl
 
-merged_low : (k keep old new : ℕ) → keep < 2 ^ 32 → keep % 2 ^ k ≡ 0 → bit_not w32 keep % 2 ^ k ≡ 2 ^ k - 1 → merged keep old new % 2 ^ k ≡ new % 2 ^ k
-merged_low k keep old new small e f =
+merged_low : (k keep old new : ℕ) → keep % 2 ^ k ≡ 0 → bit_not w32 keep % 2 ^ k ≡ 2 ^ k - 1 → merged keep old new % 2 ^ k ≡ new % 2 ^ k
+merged_low k keep old new e f =
     let a : bit_and old keep % 2 ^ k ≡ 0 = and_mod old keep k ∙ (ap (bit_and (old % 2 ^ k)) e ∙ omega (arith, and_le_r (old % 2 ^ k) 0)) in
     let b : bit_and new (bit_not w32 keep) % 2 ^ k ≡ new % 2 ^ k % 2 ^ k = and_mod new (bit_not w32 keep) k ∙ (ap (bit_and (new % 2 ^ k)) f ∙ and_mask (new % 2 ^ k) k) in
-    or_mod (bit_and old keep) (bit_and new (bit_not w32 keep)) k ∙ (ap (λ x. bit_or x (bit_and new (bit_not w32 keep) % 2 ^ k)) a ∙ (or_zero_l _ ∙ (b ∙ ?)))
+    or_mod (bit_and old keep) (bit_and new (bit_not w32 keep)) k ∙ (ap (λ x. bit_or x (bit_and new (bit_not w32 keep) % 2 ^ k)) a ∙ (or_zero_l _ ∙ (b ∙ mod-eq_of_lt (omega (arith, pow_pos k)))))
+
+prio_kept : (r : Registers) → is_prient_prog r ≡ true → guards_of r (Some Hwcfg2) ≡ 4294901760
+prio_kept r e = rw e refl
+
+pub prio_read : (h : Shape) (r : Registers) (g : ℕ) → IsPolicyShape h → IsCalm h r → g < 2 ^ 16 → bits_of 0 16 (prio_word r g) ≡ g
+prio_read h r g good c small =
+    let bits = reset_not_enabled h (word_at r 2) good c.hwcfg0 in
+    let k = prio_kept r bits.1 in
+    let low : prio_word r g % 2 ^ 16 ≡ ruled_word (fields_of r.shape Hwcfg2) (word_at r 4) g % 2 ^ 16 =
+        ap (λ x. merged x (word_at r 4) (ruled_word (fields_of r.shape Hwcfg2) (word_at r 4) g) % 2 ^ 16) k
+        ∙ merged_low 16 4294901760 (word_at r 4) (ruled_word (fields_of r.shape Hwcfg2) (word_at r 4) g) refl refl in
+    let new : ruled_word (fields_of r.shape Hwcfg2) (word_at r 4) g % 2 ^ 16 ≡ g = omega arith in
+    let one : prio_word r g / 2 ^ 0 ≡ prio_word r g = omega arith in
+    ap (λ x. x % 2 ^ 16) one ∙ (low ∙ new)
+
+-- ---- the last write: the enable bit
+
+abbrev pub enable_word : Registers → ℕ
+enable_word r = merged (guards_of r (Some Hwcfg0)) (word_at r 2) (ruled_word (fields_of r.shape Hwcfg0) (word_at r 2) 1)
+
+pub enable_last : (r : Registers) → guarded_write r (pair 2 1) ≡ set_word r 2 (enable_word r)
+enable_last r = refl
+
+enable_kept : (r : Registers) → is_enabled r ≡ false → is_prient_prog r ≡ true → r.shape.mdcfg ≡ 0 → guards_of r (Some Hwcfg0) ≡ 16654334
+enable_kept r e p f = rw (e, p, f) refl
+
+enable_ruled : (r : Registers) → word_at r 2 % 2 ≡ 0 → r.shape.mdcfg ≡ 0 → ruled_word (fields_of r.shape Hwcfg0) (word_at r 2) 1 % 2 ^ 1 ≡ 1
+enable_ruled r e f =
+    let a : bit_or (word_at r 2 / 2 ^ 0 % 2 ^ 1) (1 / 2 ^ 0 % 2 ^ 1) ≡ 1 = let z : word_at r 2 / 2 ^ 0 % 2 ^ 1 ≡ 0 = omega arith in rw z refl in
+    rw f (omega (arith, a))
+
+pub enabled_after : (h : Shape) (r : Registers) → IsPolicyShape h → IsCalm h r → has_bit (enable_word r) 0 ≡ true
+enabled_after h r good c =
+    let bits = reset_not_enabled h (word_at r 2) good c.hwcfg0 in
+    let f : r.shape.mdcfg ≡ 0 = ap (λ (x : Shape). x.mdcfg) c.shape ∙ good.mdcfg in
+    let k = enable_kept r bits.0 bits.1 f in
+    let low : enable_word r % 2 ^ 1 ≡ ruled_word (fields_of r.shape Hwcfg0) (word_at r 2) 1 % 2 ^ 1 =
+        ap (λ x. merged x (word_at r 2) (ruled_word (fields_of r.shape Hwcfg0) (word_at r 2) 1) % 2 ^ 1) k
+        ∙ merged_low 1 16654334 (word_at r 2) (ruled_word (fields_of r.shape Hwcfg0) (word_at r 2) 1) refl refl in
+    let one : enable_word r / 2 ^ 0 % 2 ≡ 1 = let q = low ∙ enable_ruled r bits.2 f in omega arith in
+    bit_is (enable_word r) 0 1 one
