@@ -88,7 +88,9 @@ fn blank_words(alloc: Global, places: u32) -> Result<Vec<u64>, AllocError>
 }
 
 impl Fabric {
-    /// Units of these shapes at reset, for events at so many places.
+    /// One to four units of these valid shapes at reset, for events at so many places, at most 1048576. The
+    /// next place is 0. It keeps one word a place for submissions that aren't judged yet, and takes all its
+    /// memory here.
     pub fn open(alloc: Global, shapes: &[Shape], places: u32) -> Result<Fabric, NoMemory>
         requires count { (1 ≤ length shapes.now) × (length shapes.now ≤ 4) }
         requires shapes { AllByRecursion IsValidShape shapes.now }
@@ -106,13 +108,14 @@ impl Fabric {
         })
     }
 
+    /// The number of units, 1 to 4.
     pub fn units(&self) -> u8
         ensures { result ≡ length self.now.units }
     {
         self.units.len() as u8
     }
 
-    /// The four error registers of a unit.
+    /// ERR_INFO, ERR_REQADDR, ERR_REQADDRH and ERR_REQID of a unit that is there.
     pub fn error_words(&self, unit: u8) -> [u32; 4]
         requires { unit < length self.now.units }
         ensures { result ≡ error_words_of (slice_get self.now.units unit) }
