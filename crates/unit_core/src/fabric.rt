@@ -80,11 +80,7 @@ fn fresh_units(alloc: Global, shapes: &[Shape]) -> Result<Vec<UnitParts>, NoMemo
 fn blank_words(alloc: Global, places: u32) -> Result<Vec<u64>, AllocError>
     ensures { IfOk result (λ words. words.items ≡ replicate places 0) }
 {
-    let mut words = Vec::new(alloc);
-    for _i in 0..places {
-        words.push(0)?;
-    }
-    Ok(words)
+    Vec::from_elem(alloc, 0, places as usize)
 }
 
 impl Fabric {
