@@ -1,20 +1,18 @@
 -- No command of a script that is read sends an access through units.
-use Rattle.std.proofs.Common.{◌≡◌, ℕ, ◌+◌, ◌-◌, ◌==◌, ◌&&◌, ◌||◌, nat_lt, nat_le, not, Bool, true, false, List, [], ◌∷◌, ◌++◌, Ok, Err, Result, length, codes, if◌then◌else◌, refl, sym, subst}
+use Rattle.std.proofs.Common.{◌≡◌, ℕ, ◌+◌, ◌==◌, ◌&&◌, ◌||◌, nat_lt, not, Bool, true, false, List, [], ◌∷◌, ◌++◌, Ok, Err, Result, length, codes, if◌then◌else◌, refl, subst}
 use Rattle.std.specs.Result.{IfOk}
 use Rattle.std.specs.List.{AllByRecursion, list_all}
-use Rattle.std.specs.Str.{bytes_eq}
 use Rattle.event_words.specs.declared.section.Command.{Command}
-use Rattle.event_words.specs.Sections.{SectionOf}
 use Rattle.script_reader.specs.declared.reader.Place.{Place}
 use Rattle.script_reader.specs.declared.reader.Place.TheVariants.{Head, Units, Boot, Lane, Finished}
-use Rattle.script_reader.specs.Codes.{◌>>=◌, not_plain, no_head, misplaced, misshapen, not_built}
+use Rattle.script_reader.specs.Codes.{◌>>=◌, not_built}
 use Rattle.script_reader.specs.Text.{is_plain, words_of, lines_of}
 use Rattle.script_reader.specs.Numbers.{number_at}
 use Rattle.script_reader.specs.Words.{word_at, is_word_at}
 use Rattle.script_reader.specs.UnitLines.{unit_line}
 use Rattle.script_reader.specs.Names.{slot_at, with_name}
 use Rattle.script_reader.specs.Commands.{unit_at, index_at, value_at, max_at, access_at, write_at, read_at, submit_at, judge_at, settle_at, until_at, through_at, command_at}
-use Rattle.script_reader.specs.Lines.{State, OpenSection, start, is_built, is_head, is_skipped, is_other, next_lane, closed, with_command, with_submission, head_step, unit_step, boot_step, end_step, lane_step, submit_step, command_step, units_step, section_step, place_step, words_step, line_step}
+use Rattle.script_reader.specs.Lines.{State, OpenSection, start, is_head, is_skipped, is_other, next_lane, closed, with_submission, head_step, unit_step, boot_step, end_step, lane_step, submit_step, command_step, units_step, section_step, place_step, words_step, line_step}
 use Rattle.script_reader.specs.Scripts.{ScriptOf, Bad, end_of, at_line, lines_from, script_at}
 use Rattle.script_reader.specs.Plain.{IsPlain, IsPlainSection, IsPlainScript}
 use Rattle.script_reader.proofs.Sounds.{all_push}
