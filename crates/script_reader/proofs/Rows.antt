@@ -6,6 +6,8 @@ use Rattle.script_reader.specs.Names.{is_name, slot_at, with_name}
 use Rattle.script_reader.specs.Commands.{unit_at, index_at, kind_at, access_at, stage_at, stages_at, write_at, read_at, submit_at, judge_at, settle_at, until_at, through_at, command_at}
 use Rattle.script_reader.specs.Lines.{head_step, unit_step, boot_step, end_step, lane_step, submit_step, command_step, units_step, section_step, words_step, line_step}
 use Rattle.script_reader.specs.Scripts.{ScriptOf, Bad, script_at, need_of}
+use Rattle.script_reader.specs.Printed.{script_text}
+use Rattle.std.specs.Fmt.{digits}
 use Rattle.event_words.specs.declared.access.Kind.TheVariants as kinds
 use Rattle.event_words.specs.declared.section.Command.{Command}
 use Rattle.event_words.specs.declared.section.Command.TheVariants.{Submit, Judge, Settle}
@@ -165,3 +167,24 @@ two_lanes :
     )
 unfolding digit_of number_of number_at ranged has_keys translation_at shape_at unit_line is_name slot_at with_name unit_at index_at kind_at access_at stage_at stages_at write_at read_at submit_at judge_at settle_at until_at through_at command_at head_step unit_step boot_step end_step lane_step submit_step command_step units_step section_step words_step line_step
 two_lanes = refl
+
+-- ---- printed scripts
+
+abbrev printed_lines : List (List ℕ)
+printed_lines = codes "iopmp 1" ∷ four_requesters ∷ codes "boot" ∷ codes "w 0 0x30 0x1" ∷ codes "t 0 3 r 0x0 4 as s0" ∷ codes "t 0 3 r 0x0 4 as s1" ∷ codes "j s0" ∷ codes "j s1" ∷ codes "until 0 0x30 0x1 0x0 max 8" ∷ codes "end" ∷ []
+
+abbrev texts_of : Result ScriptOf Bad → List ℕ
+texts_of (Ok script) = script_text script
+texts_of (Err bad) = []
+
+-- a text without blanks to spare and with these names is the canonical one
+printed_again : texts_of (script_at (text_of printed_lines)) ≡ text_of printed_lines
+unfolding digits digit_of number_of number_at ranged has_keys translation_at shape_at unit_line is_name slot_at with_name unit_at index_at kind_at access_at stage_at stages_at write_at read_at submit_at judge_at settle_at until_at through_at command_at head_step unit_step boot_step end_step lane_step submit_step command_step units_step section_step words_step line_step
+printed_again = refl
+
+-- blanks, comments and other names are gone
+printed_canonical :
+    texts_of (script_at (text_of (codes "iopmp 1" ∷ codes "# one unit" ∷ four_requesters ∷ codes "boot" ∷ codes " w 0  48 001" ∷ codes "t 0 3 r 0 4 as a" ∷ codes "t 0x0 3 r 0x00 4 as b" ∷ codes "j b" ∷ codes "end" ∷ [])))
+    ≡ text_of (codes "iopmp 1" ∷ four_requesters ∷ codes "boot" ∷ codes "w 0 0x30 0x1" ∷ codes "t 0 3 r 0x0 4 as s0" ∷ codes "t 0 3 r 0x0 4 as s1" ∷ codes "j s1" ∷ codes "end" ∷ [])
+unfolding digits digit_of number_of number_at ranged has_keys translation_at shape_at unit_line is_name slot_at with_name unit_at index_at kind_at access_at stage_at stages_at write_at read_at submit_at judge_at settle_at until_at through_at command_at head_step unit_step boot_step end_step lane_step submit_step command_step units_step section_step words_step line_step
+printed_canonical = refl

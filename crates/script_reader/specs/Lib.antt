@@ -11,3 +11,4 @@ pub mod Plain
 pub mod Sound
 pub mod Steps
 pub mod Answers
+pub mod Printed
