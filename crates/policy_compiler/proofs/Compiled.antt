@@ -1,28 +1,22 @@
 -- The registers after an image's writes are those of a compiled policy.
-use Rattle.std.proofs.Common.{◌≡◌, ℕ, zero, suc, ◌+◌, ◌-◌, ◌*◌, ◌/◌, ◌%◌, ◌^◌, ◌<◌, ◌≤◌, ◌⊎◌, inl, inr, Bool, true, false, ◌==◌, ◌||◌, cond, List, [], ◌∷◌, ◌++◌, length, length-append, append_assoc, Option, Some, None, get_or, set, arith, refl, sym, ap, ◌∙◌, subst}
-use Rattle.std.specs.List.{AllByRecursion}
+use Rattle.std.proofs.Common.{◌≡◌, ℕ, ◌+◌, ◌*◌, ◌^◌, ◌<◌, ◌≤◌, ◌⊎◌, inl, inr, Bool, true, false, ◌==◌, List, [], ◌∷◌, ◌++◌, length, length-append, append_assoc, get_or, set, arith, refl, sym, ap, ◌∙◌, subst}
 use Rattle.std.proofs.Math.ListN.{length-set}
 use Rattle.std.proofs.lemmas.List.{get_or-set_same, get_or-set_other}
 use Rattle.std.proofs.lemmas.Bool.Decides.{nat_tests}
-use Rattle.event_words.specs.declared.access.Access.{Access}
 use Rattle.event_words.specs.declared.shape.Shape.{Shape}
-use Rattle.event_words.specs.declared.register.Register.TheVariants.{Hwcfg2, Mdcfg}
-use Rattle.event_words.specs.Registers.{Registers, word_at, bits_of, has_bit, set_word, at_reset, reset_word, reset_of, index_count, if_had}
-use Rattle.event_words.specs.Guards.{reg, is_enabled}
-use Rattle.event_words.specs.Valid.{IsValidAccess}
+use Rattle.event_words.specs.Registers.{Registers, word_at, bits_of, has_bit, set_word, at_reset, reset_of, index_count}
+use Rattle.event_words.specs.Guards.{is_enabled}
 use Rattle.event_words.specs.Domains.{bound_of}
 use Rattle.event_words.specs.Decisions.{prio_count, decision}
 use Rattle.policy_compiler.specs.declared.image.RegPair.{RegPair}
 use Rattle.policy_compiler.specs.declared.hardware.EntryWords.{EntryWords}
 use Rattle.policy_compiler.specs.declared.read.rules.RuleKind.TheVariants.{Guards, Grants}
-use Rattle.policy_compiler.specs.Policies.{DomainOf, PolicyOf, IsPolicy, IsPolicyShape}
-use Rattle.policy_compiler.specs.Images.{HardwareOf, hardware, hardware_of, entry_count, pair, mdcfg_writes, enable_bits, enable_writes, permissions, permission_writes, member_writes, hardware_writes, entry_writes, writes_of, image_of, ImageOf}
+use Rattle.policy_compiler.specs.Policies.{PolicyOf, IsPolicy, IsPolicyShape}
+use Rattle.policy_compiler.specs.Images.{HardwareOf, hardware, hardware_of, entry_count, pair, mdcfg_writes, enable_bits, enable_writes, permissions, permission_writes, member_writes, hardware_writes, entry_writes, writes_of, image_of}
 use Rattle.policy_compiler.specs.Needs.{need_domains, need_entries}
-use Rattle.policy_compiler.specs.Fitting.{IsFitting}
-use Rattle.policy_compiler.specs.Decides.{policy_decision}
-use Rattle.policy_compiler.specs.Laws.{guarded_write, after_writes, registers_after, kind_of, DecidesAs}
+use Rattle.policy_compiler.specs.Laws.{after_writes, registers_after, kind_of, DecidesAs}
 use Rattle.policy_compiler.proofs.Fits.{domains_have_rules, count_append, kind_domains, kind_entries}
-use Rattle.policy_compiler.proofs.Plain.{IsCalm, puts, Puts, ArePlain, after_plain, after_append, plain_append, register_at-Mdcfg}
+use Rattle.policy_compiler.proofs.Plain.{puts, Puts, ArePlain, after_plain, after_append, plain_append, register_at-Mdcfg}
 use Rattle.policy_compiler.proofs.Ends.{reset_read, calm_reset, calm_prio, prio_word, prio_read, enable_word, enabled_after}
 use Rattle.policy_compiler.proofs.Puts.{AreWithin, untouched, length_puts, puts_append, mdcfg_within, enables_within, permissions_within, entries_within, end_at, mdcfg_read, enables_read, members_at, permissions_read, all_entries, hardware_entries, ReadsEntries, entries_read}
 use Rattle.policy_compiler.proofs.PlainWrites.{AreEntries, both_good, length_all, plain_mdcfgs, plain_enables, plain_permissions, plain_entries}
@@ -69,7 +63,7 @@ plain_tables h hs room =
     let n = room.entries in
     let d = room.domains in
     plain_append h (mdcfg_writes 0 0 hs) (member_writes h hs ++ hardware_writes 0 hs) (plain_mdcfgs h 0 0 hs room.shape (omega arith) (omega arith))
-        (plain_append h (member_writes h hs) (hardware_writes 0 hs) (plain_members h hs room (format_of h room.shape)) (plain_hardware h hs room))
+    (plain_append h (member_writes h hs) (hardware_writes 0 hs) (plain_members h hs room (format_of h room.shape)) (plain_hardware h hs room))
 
 -- ---- the registers after all writes
 
@@ -87,8 +81,8 @@ writes_split : (h : Shape) (g : ℕ) (hs : List HardwareOf) → writes_of h g hs
 unfolding writes_of
 writes_split h g hs =
     ap (λ ps. pair 4 g ∷ ps)
-        (ap (λ ps. mdcfg_writes 0 0 hs ++ ps) (sym (append_assoc (member_writes h hs) (hardware_writes 0 hs) (pair 2 1 ∷ [])))
-        ∙ sym (append_assoc (mdcfg_writes 0 0 hs) (member_writes h hs ++ hardware_writes 0 hs) (pair 2 1 ∷ [])))
+    (ap (λ ps. mdcfg_writes 0 0 hs ++ ps) (sym (append_assoc (member_writes h hs) (hardware_writes 0 hs) (pair 2 1 ∷ [])))
+    ∙ sym (append_assoc (mdcfg_writes 0 0 hs) (member_writes h hs ++ hardware_writes 0 hs) (pair 2 1 ∷ [])))
 
 after_is : (h : Shape) (g : ℕ) (hs : List HardwareOf) → after_writes (at_reset h) (writes_of h g hs) ≡ last_of h g hs
 after_is h g hs = ap (after_writes (at_reset h)) (writes_split h g hs) ∙ after_append (first_of h g) (table_writes h hs) (pair 2 1 ∷ [])
@@ -213,11 +207,12 @@ length_2 h g hs = length_puts (words_1 h g hs) (member_writes h hs) ∙ length_1
 -- the write of a word below the entries leaves them
 still_read : (ws : List ℕ) (i : ℕ) (es : List EntryWords) (v : ℕ) → ReadsEntries ws i es → ReadsEntries (set ws 2 v) i es
 still_read ws i [] v h = tt
-still_read ws i (e ∷ es) v h =
-    (get_or-set_other ws 2 (2048 + 4 * i) v 0 (λ q. absurd (omega arith)) ∙ h.0,
-    get_or-set_other ws 2 (2049 + 4 * i) v 0 (λ q. absurd (omega arith)) ∙ h.1,
-    get_or-set_other ws 2 (2050 + 4 * i) v 0 (λ q. absurd (omega arith)) ∙ h.2,
-    still_read ws (i + 1) es v h.3)
+still_read ws i (e ∷ es) v h = (
+  get_or-set_other ws 2 (2048 + 4 * i) v 0 (λ q. absurd (omega arith)) ∙ h.0,
+  get_or-set_other ws 2 (2049 + 4 * i) v 0 (λ q. absurd (omega arith)) ∙ h.1,
+  get_or-set_other ws 2 (2050 + 4 * i) v 0 (λ q. absurd (omega arith)) ∙ h.2,
+  still_read ws (i + 1) es v h.3,
+)
 
 entries_are : (h : Shape) (g : ℕ) (hs : List HardwareOf) → HasRoom h hs → ReadsEntries (last_of h g hs).words 0 (all_entries hs)
 entries_are h g hs room =
@@ -235,9 +230,9 @@ prio_is h g hs room few =
     let l = (calm_reset h).len in
     let d = room.domains in
     let read : word_at (last_of h g hs) 4 ≡ prio_word (at_reset h) g =
-        low_read h g hs 4 room (λ e. absurd (omega arith)) (omega arith)
-        ∙ (untouched (first_of h g).words (mdcfg_writes 0 0 hs) 512 (512 + (0 + length hs)) 4 (mdcfg_within 0 0 hs 512 (512 + (0 + length hs)) (omega arith) (omega arith)) (inl (omega arith))
-        ∙ get_or-set_same (at_reset h).words 4 (prio_word (at_reset h) g) 0 (omega arith)) in
+    low_read h g hs 4 room (λ e. absurd (omega arith)) (omega arith)
+    ∙ (untouched (first_of h g).words (mdcfg_writes 0 0 hs) 512 (512 + (0 + length hs)) 4 (mdcfg_within 0 0 hs 512 (512 + (0 + length hs)) (omega arith) (omega arith)) (inl (omega arith))
+    ∙ get_or-set_same (at_reset h).words 4 (prio_word (at_reset h) g) 0 (omega arith)) in
     ap (bits_of 0 16) read ∙ prio_read h (at_reset h) g room.shape (calm_reset h) (omega arith)
 
 enabled_is : (h : Shape) (g : ℕ) (hs : List HardwareOf) → HasRoom h hs → is_enabled (last_of h g hs) ≡ true
@@ -272,7 +267,7 @@ compiled p room =
     let fits = room.entries in
     let total = count_append (hardware_of Guards p.domains) (hardware_of Grants p.domains) in
     let bounds : (m : ℕ) → m < (last_of p.shape (entry_count (hardware_of Guards p.domains)) (hardware p.domains)).shape.domains → bound_of (last_of p.shape (entry_count (hardware_of Guards p.domains)) (hardware p.domains)) m ≡ end_at 0 (hardware p.domains) m =
-        λ m l. bound_is p.shape (entry_count (hardware_of Guards p.domains)) (hardware p.domains) m room (omega arith) in
+    λ m l. bound_is p.shape (entry_count (hardware_of Guards p.domains)) (hardware p.domains) m room (omega arith) in
     record {
       shape = e;
       enabled = enabled_is p.shape (entry_count (hardware_of Guards p.domains)) (hardware p.domains) room;

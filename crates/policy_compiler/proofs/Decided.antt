@@ -1,13 +1,12 @@
 -- Registers that hold a policy's hardware domains decide as the policy does.
-use Rattle.std.proofs.Common.{◌≡◌, ℕ, zero, suc, ◌+◌, ◌-◌, ◌*◌, ◌<◌, ◌≤◌, Bool, true, false, not, ◌&&◌, ◌||◌, ◌==◌, eqb, ltb, leb, cond, List, [], ◌∷◌, ◌++◌, length, Option, Some, None, find, filter, arith, refl, sym, ap, ◌∙◌, subst}
-use Rattle.std.specs.List.{range_with_len, list_any, list_all, AllByRecursion}
+use Rattle.std.proofs.Common.{◌≡◌, ℕ, ◌+◌, ◌-◌, ◌<◌, ◌≤◌, Bool, true, false, not, ◌&&◌, ◌||◌, ltb, cond, List, [], ◌∷◌, length, Option, Some, None, find, arith, refl, sym, ap, ◌∙◌, subst}
+use Rattle.std.specs.List.{range_with_len, list_any}
 use Rattle.std.specs.Option.{option_or}
 use Rattle.std.proofs.lemmas.Bool.{ltb-true}
 use Rattle.std.proofs.lemmas.Bool.Decides.{nat_tests}
 use Rattle.event_words.specs.declared.access.Access.{Access}
 use Rattle.event_words.specs.declared.shape.Shape.{Shape}
-use Rattle.event_words.specs.declared.reply.Decision.{Decision}
-use Rattle.event_words.specs.declared.reply.Decision.TheVariants.{Allowed, Denied}
+use Rattle.event_words.specs.declared.reply.Decision.TheVariants.{Allowed}
 use Rattle.event_words.specs.Registers.{Registers}
 use Rattle.event_words.specs.Guards.{is_enabled}
 use Rattle.event_words.specs.Valid.{IsValidAccess}
@@ -17,9 +16,9 @@ use Rattle.event_words.specs.Decisions.{prio_count, is_entry_of, owned_by, entry
 use Rattle.policy_compiler.specs.declared.policy.Rule.{Rule}
 use Rattle.policy_compiler.specs.declared.read.rules.RuleKind.TheVariants.{Guards, Grants}
 use Rattle.policy_compiler.specs.Policies.{DomainOf, PolicyOf, IsPolicy}
-use Rattle.policy_compiler.specs.Images.{HardwareOf, hardware_of, hardware, entry_count}
+use Rattle.policy_compiler.specs.Images.{hardware_of, hardware, entry_count}
 use Rattle.policy_compiler.specs.Laws.{kind_of}
-use Rattle.policy_compiler.specs.Decides.{rule_touches, rule_covers, rule_grants, allows, first_guard, any_grant, illegal_kind, guard_kind, grants_kind, kind_by, policy_decision}
+use Rattle.policy_compiler.specs.Decides.{rule_touches, rule_covers, allows, first_guard, any_grant, illegal_kind, guard_kind, grants_kind, kind_by, policy_decision}
 use Rattle.policy_compiler.proofs.Finds.{find_range, find_none, any_range, any_none, any_filter, some_filter, is_some_list}
 use Rattle.policy_compiler.proofs.Fits.{domains_have_rules, count_append}
 use Rattle.policy_compiler.proofs.Held.{Holds, holds_split}
@@ -121,9 +120,9 @@ grants_decide r p a rest h good some known e =
     let low : (j : ℕ) → j < entry_count (hardware_of Guards p.domains) → is_covering r a j ≡ false = λ j l. before_grants r a j (omega (arith, h.prio)) in
     let high : (j : ℕ) → entry_count (hardware_of Guards p.domains) + entry_count (hardware_of Grants p.domains) ≤ j → is_covering r a j ≡ false = λ j l. of_nobody r a j (h.free j (omega arith)) in
     let covered = any_all (is_covering r a) (entry_count (hardware_of Guards p.domains)) (entry_count (hardware_of Grants p.domains)) rest (any_grant (rule_covers a) a.rrid p.domains) low
-        (ap (λ k. list_any (is_covering r a) (range_with_len k (entry_count (hardware_of Grants p.domains)))) (sym zero_g) ∙ held.covered_is) high in
+    (ap (λ k. list_any (is_covering r a) (range_with_len k (entry_count (hardware_of Grants p.domains)))) (sym zero_g) ∙ held.covered_is) high in
     let allowed = any_all (granting r a) (entry_count (hardware_of Guards p.domains)) (entry_count (hardware_of Grants p.domains)) rest (any_grant (allows a) a.rrid p.domains) (λ j l. granting_none r a j (low j l))
-        (ap (λ k. list_any (granting r a) (range_with_len k (entry_count (hardware_of Grants p.domains)))) (sym zero_g) ∙ held.allowed_is) (λ j l. granting_none r a j (high j l)) in
+    (ap (λ k. list_any (granting r a) (range_with_len k (entry_count (hardware_of Grants p.domains)))) (sym zero_g) ∙ held.allowed_is) (λ j l. granting_none r a j (high j l)) in
     covering_kind r a (covering r a)
     ∙ (ap (λ b. cond b 0 (cond (is_some_list (covering r a)) (illegal_kind a) 5)) (any_filter (is_covering r a) (entry_grants r a.rrid a.kind) (entries r) ∙ (ap (λ n. list_any (granting r a) (range_with_len 0 n)) e ∙ allowed))
     ∙ ap (λ b. cond (any_grant (allows a) a.rrid p.domains) 0 (cond b (illegal_kind a) 5)) (some_filter (is_covering r a) (entries r) ∙ (ap (λ n. list_any (is_covering r a) (range_with_len 0 n)) e ∙ covered)))
@@ -144,8 +143,8 @@ known_decide r p a h good some known =
     let fits = h.fits in
     let rest = r.shape.entries - entry_count (hardware p.domains) in
     kind_related r a p.domains (first_touching r a) (first_guard (rule_touches a) a.rrid p.domains)
-        (guards_decide r p a (entry_count (hardware_of Grants p.domains) + (r.shape.entries - entry_count (hardware p.domains))) h good some known (omega arith))
-        (grants_decide r p a (r.shape.entries - entry_count (hardware p.domains)) h good some known (omega arith))
+    (guards_decide r p a (entry_count (hardware_of Grants p.domains) + (r.shape.entries - entry_count (hardware p.domains))) h good some known (omega arith))
+    (grants_decide r p a (r.shape.entries - entry_count (hardware p.domains)) h good some known (omega arith))
 
 by_known : (r : Registers) (p : PolicyOf) (a : Access) (b : Bool) → ltb a.rrid r.shape.rrids ≡ b → IsCompiled r p → IsPolicy p → 1 ≤ a.len
     → kind_of (cond (not b) (violation 6 0xFFFF) (by_touching r a (first_touching r a))) ≡ cond (not b) 6 (kind_by a p.domains (first_guard (rule_touches a) a.rrid p.domains))

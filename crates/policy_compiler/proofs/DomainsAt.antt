@@ -1,6 +1,6 @@
 -- A search over the entries of hardware domains, beside one over the policy's domains.
-use Rattle.std.proofs.Common.{◌≡◌, ℕ, zero, suc, ◌+◌, ◌-◌, ◌*◌, ◌<◌, ◌≤◌, Bool, true, false, not, ◌&&◌, ◌||◌, ◌==◌, eqb, ltb, leb, cond, List, [], ◌∷◌, ◌++◌, length, length-append, Option, Some, None, find, arith, refl, sym, ap, ◌∙◌, subst}
-use Rattle.std.specs.List.{range_with_len, list_any, list_all, AllByRecursion}
+use Rattle.std.proofs.Common.{◌≡◌, ℕ, ◌+◌, ◌<◌, ◌≤◌, Bool, true, false, ◌&&◌, ◌||◌, ◌==◌, cond, List, [], ◌∷◌, length, Option, None, find, arith, refl, sym, ap, ◌∙◌, subst}
+use Rattle.std.specs.List.{range_with_len, list_any, AllByRecursion}
 use Rattle.std.specs.Option.{option_or}
 use Rattle.std.proofs.lemmas.Bool.Decides.{nat_tests}
 use Rattle.event_words.specs.declared.access.Access.{Access}
@@ -46,7 +46,7 @@ find_domain : (r : Registers) (a : Access) (m i : ℕ) (members : ℕ) (us : Lis
 find_domain r a m i members us rest o true e some known good held small ih =
     let z : length us ≡ 0 = grind (arith, nat_tests) in
     let x : cond (has_bit members a.rrid) (option_or (find (rule_touches a) us) o) o ≡ o =
-        guard_or (has_bit members a.rrid) (find (rule_touches a) us) o ∙ (ap (λ vs. option_or (when (has_bit members a.rrid) (find (rule_touches a) vs)) o) (nil_of us z) ∙ none_when (has_bit members a.rrid) o) in
+    guard_or (has_bit members a.rrid) (find (rule_touches a) us) o ∙ (ap (λ vs. option_or (when (has_bit members a.rrid) (find (rule_touches a) vs)) o) (nil_of us z) ∙ none_when (has_bit members a.rrid) o) in
     subst (Related r a (find (is_touching r a) (range_with_len i (entry_count rest)))) (sym x) (ih m i held small)
 find_domain r a m i members us rest o false e some known good held small ih =
     let run = run_of r m i (hardware_with members us) a known held.0 in
@@ -54,7 +54,7 @@ find_domain r a m i members us rest o false e some known good held small ih =
     let tail = ih (m + 1) (i + length (entries_of us)) held.1 (omega arith) in
     let whole = related_or r a _ _ _ _ head tail in
     subst (λ q. Related r a q (cond (has_bit members a.rrid) (option_or (find (rule_touches a) us) o) o)) (sym (find_range (is_touching r a) i (length (entries_of us)) (entry_count rest)))
-        (subst (Related r a _) (sym (guard_or (has_bit members a.rrid) (find (rule_touches a) us) o)) whole)
+    (subst (Related r a _) (sym (guard_or (has_bit members a.rrid) (find (rule_touches a) us) o)) whole)
 
 -- The first guard of the requester's domains that touches is the rule of the first entry that does.
 pub find_domains : (r : Registers) (a : Access) (ds : List DomainOf) → 1 ≤ a.len → a.rrid < r.shape.rrids → AllByRecursion HasRules ds → FindsRest r a (hardware_of Guards ds) (first_guard (rule_touches a) a.rrid ds)
@@ -62,7 +62,7 @@ unfolding is_member
 find_domains r a [] some known good m i held small = tt
 find_domains r a (d ∷ ds) some known good m i held small =
     find_domain r a m i d.rrids d.guards (hardware_of Guards ds) (first_guard (rule_touches a) a.rrid ds) (is_empty d.guards) refl some known good.0.guards held small
-        (find_domains r a ds some known good.1)
+    (find_domains r a ds some known good.1)
 
 -- ---- grants
 
@@ -107,4 +107,4 @@ unfolding is_member
 cover_domains r a [] some known good m i held past = record { covered_is = refl; allowed_is = refl }
 cover_domains r a (d ∷ ds) some known good m i held past =
     cover_domain r a m i d.rrids d.grants (hardware_of Grants ds) (any_grant (rule_covers a) a.rrid ds) (any_grant (allows a) a.rrid ds) (is_empty d.grants) refl some known good.0.grants held past
-        (cover_domains r a ds some known good.1)
+    (cover_domains r a ds some known good.1)

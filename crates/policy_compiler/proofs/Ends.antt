@@ -1,20 +1,18 @@
 -- The first write of an image, and the last.
-use Rattle.std.proofs.Common.{◌≡◌, ℕ, zero, suc, ◌+◌, ◌-◌, ◌*◌, ◌/◌, ◌%◌, ◌^◌, ◌<◌, ◌≤◌, Bool, true, false, not, ◌&&◌, ◌||◌, ◌==◌, eqb, ltb, leb, cond, List, [], ◌∷◌, ◌++◌, length, map, Option, Some, None, sum_by, bit_and, bit_or, get_or, set, arith, refl, sym, ap, ◌∙◌, subst, ⊎_elim}
-use Rattle.std.specs.Prelude.{is_some, unwrap_or}
-use Rattle.std.specs.Int.{bit_at, bit_not, w32}
+use Rattle.std.proofs.Common.{◌≡◌, ℕ, ◌+◌, ◌-◌, ◌*◌, ◌/◌, ◌%◌, ◌^◌, ◌<◌, ◌≤◌, Bool, true, false, ◌&&◌, ◌==◌, ltb, List, Some, bit_and, bit_or, get_or, set, arith, refl, ap, ◌∙◌}
+use Rattle.std.specs.Prelude.{is_some}
+use Rattle.std.specs.Int.{bit_not, w32}
 use Rattle.std.specs.Int.Bits.{or_zero_l}
-use Rattle.std.specs.List.{range_with_len}
 use Rattle.std.proofs.Math.Nat.{mod-eq_of_lt}
 use Rattle.std.proofs.Math.ListN.{length-set}
 use Rattle.std.proofs.lemmas.Nat.{and_le_r, and_mask, or_mod, and_mod, pow_pos}
-use Rattle.std.proofs.lemmas.List.{get_or-set_same, get_or-set_other}
+use Rattle.std.proofs.lemmas.List.{get_or-set_other}
 use Rattle.std.proofs.lemmas.List.FromFn.{length-map-range_with_len, get_or-map-range_with_len}
 use Rattle.std.proofs.lemmas.Bool.Decides.{nat_tests}
 use Rattle.event_words.specs.declared.shape.Shape.{Shape}
-use Rattle.event_words.specs.declared.register.Register.{Register}
 use Rattle.event_words.specs.declared.register.Register.TheVariants.{Hwcfg0, Hwcfg2, SrcmdEn}
-use Rattle.event_words.specs.Registers.{Registers, word_at, bits_of, has_bit, register_at, named_at, srcmd_at, if_had, has_register, fields_of, ruled_word, merged, set_word, reset_word, reset_of, index_count, at_reset, count_of_bool}
-use Rattle.event_words.specs.Guards.{guards_of, is_enabled, is_prient_prog, read_only_bits, locks_of}
+use Rattle.event_words.specs.Registers.{Registers, word_at, bits_of, has_bit, named_at, if_had, fields_of, ruled_word, merged, set_word, reset_word, reset_of, index_count, at_reset, count_of_bool}
+use Rattle.event_words.specs.Guards.{guards_of, is_enabled, is_prient_prog}
 use Rattle.policy_compiler.specs.Policies.{IsPolicyShape}
 use Rattle.policy_compiler.specs.Images.{pair}
 use Rattle.policy_compiler.specs.Laws.{guarded_write}
@@ -109,8 +107,8 @@ prio_read h r g good c small =
     let bits = reset_not_enabled h (word_at r 2) good c.hwcfg0 in
     let k = prio_kept r bits.1 in
     let low : prio_word r g % 2 ^ 16 ≡ ruled_word (fields_of r.shape Hwcfg2) (word_at r 4) g % 2 ^ 16 =
-        ap (λ x. merged x (word_at r 4) (ruled_word (fields_of r.shape Hwcfg2) (word_at r 4) g) % 2 ^ 16) k
-        ∙ merged_low 16 4294901760 (word_at r 4) (ruled_word (fields_of r.shape Hwcfg2) (word_at r 4) g) refl refl in
+    ap (λ x. merged x (word_at r 4) (ruled_word (fields_of r.shape Hwcfg2) (word_at r 4) g) % 2 ^ 16) k
+    ∙ merged_low 16 4294901760 (word_at r 4) (ruled_word (fields_of r.shape Hwcfg2) (word_at r 4) g) refl refl in
     let new : ruled_word (fields_of r.shape Hwcfg2) (word_at r 4) g % 2 ^ 16 ≡ g = omega arith in
     let one : prio_word r g / 2 ^ 0 ≡ prio_word r g = omega arith in
     ap (λ x. x % 2 ^ 16) one ∙ (low ∙ new)
@@ -137,7 +135,7 @@ enabled_after h r good c =
     let f : r.shape.mdcfg ≡ 0 = ap (λ (x : Shape). x.mdcfg) c.shape ∙ good.mdcfg in
     let k = enable_kept r bits.0 bits.1 f in
     let low : enable_word r % 2 ^ 1 ≡ ruled_word (fields_of r.shape Hwcfg0) (word_at r 2) 1 % 2 ^ 1 =
-        ap (λ x. merged x (word_at r 2) (ruled_word (fields_of r.shape Hwcfg0) (word_at r 2) 1) % 2 ^ 1) k
-        ∙ merged_low 1 16654334 (word_at r 2) (ruled_word (fields_of r.shape Hwcfg0) (word_at r 2) 1) refl refl in
+    ap (λ x. merged x (word_at r 2) (ruled_word (fields_of r.shape Hwcfg0) (word_at r 2) 1) % 2 ^ 1) k
+    ∙ merged_low 1 16654334 (word_at r 2) (ruled_word (fields_of r.shape Hwcfg0) (word_at r 2) 1) refl refl in
     let one : enable_word r / 2 ^ 0 % 2 ≡ 1 = let q = low ∙ enable_ruled r bits.2 f in omega arith in
     bit_is (enable_word r) 0 1 one

@@ -1,16 +1,16 @@
 -- The bytes of the entries that a rule is compiled to.
-use Rattle.std.proofs.Common.{◌≡◌, ℕ, zero, suc, ◌+◌, ◌-◌, ◌*◌, ◌^◌, ◌/◌, ◌%◌, ◌<◌, ◌≤◌, ◌==◌, ◌&&◌, ◌||◌, Bool, true, false, IsTrue, eqb, ltb, leb, cond, arith, rules, refl, sym, ap, ◌∙◌, subst, ⊎_elim}
+use Rattle.std.proofs.Common.{◌≡◌, ℕ, zero, suc, ◌+◌, ◌-◌, ◌*◌, ◌^◌, ◌/◌, ◌%◌, ◌<◌, ◌≤◌, ◌==◌, ◌&&◌, ◌||◌, Bool, true, false, eqb, ltb, leb, cond, arith, refl, sym, ap, ◌∙◌, subst, ⊎_elim}
 use Rattle.std.specs.Int.{bit_at, trailing_ones, w64, is_power_of_two}
 use Rattle.std.specs.Int.RustNames.{count_ones}
 use Rattle.std.proofs.Math.Nat.{add-mul, one-mul, mul_assoc}
 use Rattle.std.proofs.Math.Pow.{pow_mono}
 use Rattle.std.proofs.lemmas.Nat.{pow_pos, pow-add, div-add-mod', mod_below, le-div, div_below, zero_from_ones, ones_le_self, div-mul-add}
-use Rattle.std.proofs.lemmas.Nat.Bits.{bit_at-trailing_ones, bit_at_above, bit_at_cat_low, bit_at_cat_high, bit_at_ones}
+use Rattle.std.proofs.lemmas.Nat.Bits.{bit_at-trailing_ones, bit_at_above, bit_at_cat_low, bit_at_ones}
 use Rattle.std.proofs.lemmas.Bool.{cases_lt}
 use Rattle.std.proofs.lemmas.Bool.Decides.{nat_tests}
 use lib.Count.{ones_step}
-use Rattle.event_words.specs.declared.register.Register.TheVariants.{EntryAddr, EntryAddrh, EntryCfg}
-use Rattle.event_words.specs.Registers.{Registers, bits_of}
+use Rattle.event_words.specs.declared.register.Register.TheVariants.{EntryCfg}
+use Rattle.event_words.specs.Registers.{Registers}
 use Rattle.event_words.specs.Guards.{reg}
 use Rattle.event_words.specs.Entries.{word_address, mode_of, bottom_of, is_byte_of, is_byte_of_mode}
 use Rattle.register_fields.specs.Rights.{rights_bits}
@@ -151,9 +151,9 @@ size_power size e h =
     let p = power_of_ones size size (omega arith) one in
     let much = p.1 in
     let some : 3 ≤ p.0 = ⊎_elim
-        (λ (l : p.0 < 3). absurd (let small : 2 ^ p.0 ≤ 2 ^ 2 = pow_mono {j = 2} (omega arith) in omega arith))
-        (λ (g : 3 ≤ p.0). g)
-        (cases_lt p.0 3) in
+    (λ (l : p.0 < 3). absurd (let small : 2 ^ p.0 ≤ 2 ^ 2 = pow_mono {j = 2} (omega arith) in omega arith))
+    (λ (g : 3 ≤ p.0). g)
+    (cases_lt p.0 3) in
     let back : p.0 - 3 + 3 ≡ p.0 = omega arith in
     let out : (k : ℕ) × (size ≡ 2 ^ (k + 3)) = (p.0 - 3, rw back p.1) in out
 

@@ -1,11 +1,11 @@
 -- The bits of the words of SRCMD_EN and SRCMD_PERM.
-use Rattle.std.proofs.Common.{◌≡◌, ℕ, zero, suc, ◌+◌, ◌-◌, ◌*◌, ◌/◌, ◌%◌, ◌^◌, ◌<◌, ◌≤◌, Bool, true, false, ◌==◌, cond, List, [], ◌∷◌, length, arith, refl, sym, ap, ◌∙◌, subst}
+use Rattle.std.proofs.Common.{◌≡◌, ℕ, zero, suc, ◌+◌, ◌-◌, ◌*◌, ◌/◌, ◌^◌, ◌<◌, ◌≤◌, Bool, true, false, ◌==◌, cond, List, [], ◌∷◌, length, arith, refl, sym, ap, ◌∙◌, subst}
 use Rattle.std.specs.Int.{bit_at}
 use Rattle.std.proofs.Math.Nat.{add-mul, mul_assoc, mul_comm}
-use Rattle.std.proofs.lemmas.Nat.{pow-add, pow_pos}
+use Rattle.std.proofs.lemmas.Nat.{pow-add}
 use Rattle.std.proofs.lemmas.Nat.Bits.{bit_at-suc, bit_at_cat_high}
 use Rattle.event_words.specs.Registers.{has_bit}
-use Rattle.policy_compiler.specs.Images.{HardwareOf, enable_bits, permission, permissions_from, permissions}
+use Rattle.policy_compiler.specs.Images.{HardwareOf, enable_bits, permissions_from, permissions}
 use Rattle.policy_compiler.proofs.Puts.{members_at}
 use Rattle.policy_compiler.proofs.Steps.{four_times}
 
@@ -119,9 +119,10 @@ quad_bits members s (suc n) (suc k) p =
     let b = three_small (has_bit members s) in
     let even : 2 * suc k - 2 ≡ 2 * k = omega arith in
     let odd : 2 * suc k + 1 - 2 ≡ 2 * k + 1 = omega arith in
-    let ih = quad_bits members (s + 1) n k (omega arith) in
-    (bit_at_cat_high (quads members (s + 1) n) 2 (three_if (has_bit members s)) (2 * suc k) b (omega arith) ∙ (ap (bit_at (quads members (s + 1) n)) even ∙ (ih.0 ∙ ap (λ i. count_bit (has_bit members i)) e)),
-    bit_at_cat_high (quads members (s + 1) n) 2 (three_if (has_bit members s)) (2 * suc k + 1) b (omega arith) ∙ (ap (bit_at (quads members (s + 1) n)) odd ∙ (ih.1 ∙ ap (λ i. count_bit (has_bit members i)) e)))
+    let ih = quad_bits members (s + 1) n k (omega arith) in (
+      bit_at_cat_high (quads members (s + 1) n) 2 (three_if (has_bit members s)) (2 * suc k) b (omega arith) ∙ (ap (bit_at (quads members (s + 1) n)) even ∙ (ih.0 ∙ ap (λ i. count_bit (has_bit members i)) e)),
+      bit_at_cat_high (quads members (s + 1) n) 2 (three_if (has_bit members s)) (2 * suc k + 1) b (omega arith) ∙ (ap (bit_at (quads members (s + 1) n)) odd ∙ (ih.1 ∙ ap (λ i. count_bit (has_bit members i)) e)),
+    )
 
 pub permissions_is : (members n : ℕ) → permissions n members ≡ quads members 0 n
 unfolding permissions
@@ -132,6 +133,7 @@ pub permission_member : (members n s : ℕ) → s < n → (has_bit (permissions 
 permission_member members n s p =
     let e = permissions_is members n in
     let z : 0 + s ≡ s = omega arith in
-    let b = quad_bits members 0 n s p in
-    (ap (λ w. has_bit w (2 * s)) e ∙ (ap (λ x. x == 1) b.0 ∙ (bit_of_count (has_bit members (0 + s)) ∙ ap (has_bit members) z)),
-    ap (λ w. has_bit w (2 * s + 1)) e ∙ (ap (λ x. x == 1) b.1 ∙ (bit_of_count (has_bit members (0 + s)) ∙ ap (has_bit members) z)))
+    let b = quad_bits members 0 n s p in (
+      ap (λ w. has_bit w (2 * s)) e ∙ (ap (λ x. x == 1) b.0 ∙ (bit_of_count (has_bit members (0 + s)) ∙ ap (has_bit members) z)),
+      ap (λ w. has_bit w (2 * s + 1)) e ∙ (ap (λ x. x == 1) b.1 ∙ (bit_of_count (has_bit members (0 + s)) ∙ ap (has_bit members) z)),
+    )

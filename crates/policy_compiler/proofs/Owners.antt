@@ -1,21 +1,20 @@
 -- The owners of entries and the members of domains, by the words of the tables.
-use Rattle.std.proofs.Common.{◌≡◌, ℕ, zero, suc, ◌+◌, ◌-◌, ◌*◌, ◌/◌, ◌%◌, ◌^◌, ◌<◌, ◌≤◌, Bool, true, false, ◌==◌, ◌&&◌, ◌||◌, eqb, ltb, cond, List, [], ◌∷◌, ◌++◌, length, Option, Some, None, find, arith, refl, sym, ap, ◌∙◌, subst, ⊎_elim}
+use Rattle.std.proofs.Common.{◌≡◌, ℕ, zero, suc, ◌+◌, ◌*◌, ◌<◌, ◌≤◌, Bool, true, false, ◌||◌, ltb, List, [], ◌∷◌, length, Some, None, find, arith, refl, sym, ap, ◌∙◌, subst, ⊎_elim}
 use Rattle.std.specs.List.{range_with_len}
 use Rattle.std.proofs.lemmas.Bool.{cases_lt}
 use Rattle.std.proofs.lemmas.Bool.Decides.{nat_tests}
 use Rattle.event_words.specs.declared.access.Kind.{Kind}
 use Rattle.event_words.specs.declared.access.Kind.TheVariants.{Read, Write, Fetch}
-use Rattle.event_words.specs.declared.register.Register.TheVariants.{SrcmdEn, SrcmdPerm, EntryCfg}
+use Rattle.event_words.specs.declared.register.Register.TheVariants.{SrcmdPerm}
 use Rattle.event_words.specs.Registers.{Registers, word_at, has_bit}
 use Rattle.event_words.specs.Guards.{reg}
-use Rattle.event_words.specs.Domains.{bound_of, is_bounded_by, owner_of, is_known, is_in_table, is_associated, domain_grants, by_kind}
-use Rattle.event_words.specs.Entries.{word_address}
+use Rattle.event_words.specs.Domains.{bound_of, is_bounded_by, owner_of, is_in_table, is_associated, domain_grants, by_kind}
 use Rattle.policy_compiler.specs.declared.hardware.EntryWords.{EntryWords}
 use Rattle.policy_compiler.specs.Images.{HardwareOf, entry_count, enable_bits, permissions}
 use Rattle.policy_compiler.proofs.Finds.{find_none}
 use Rattle.policy_compiler.proofs.Puts.{end_at, members_at, all_entries, ReadsEntries}
 use Rattle.policy_compiler.proofs.Masks.{enable_member, permission_member}
-use Rattle.policy_compiler.proofs.Held.{HoldsEntries, IsHeld, Holds, entries_split}
+use Rattle.policy_compiler.proofs.Held.{HoldsEntries, Holds, entries_split}
 
 -- ---- owners
 
@@ -42,14 +41,14 @@ owners_at r m i (h ∷ hs) few bounds below =
     let z : m + zero ≡ m = omega arith in
     let here : bound_of r m ≡ i + length h.entries = ap (bound_of r) (sym z) ∙ bounds zero (omega arith) in
     let owner : (j : ℕ) → i ≤ j → j < i + length h.entries → owner_of r j ≡ Some m =
-        λ j l u. find_here (is_bounded_by r j) 0 r.shape.domains m
-            (let q : j < bound_of r m = omega arith in search (nat_tests, arith))
-            (λ n a b. let q : bound_of r n ≤ j = omega (arith, below n b) in search (nat_tests, arith))
-            (omega arith) (omega arith) in
+    λ j l u. find_here (is_bounded_by r j) 0 r.shape.domains m
+    (let q : j < bound_of r m = omega arith in search (nat_tests, arith))
+    (λ n a b. let q : bound_of r n ≤ j = omega (arith, below n b) in search (nat_tests, arith))
+    (omega arith) (omega arith) in
     let next : (k : ℕ) → k < length hs → bound_of r ((m + 1) + k) ≡ end_at (i + length h.entries) hs k =
-        λ k l. let e : (m + 1) + k ≡ m + suc k = omega arith in ap (bound_of r) e ∙ bounds (suc k) (omega arith) in
+    λ k l. let e : (m + 1) + k ≡ m + suc k = omega arith in ap (bound_of r) e ∙ bounds (suc k) (omega arith) in
     let under : (n : ℕ) → n < m + 1 → bound_of r n ≤ i + length h.entries =
-        λ n l. ⊎_elim (λ (a : n < m). omega (arith, below n a)) (λ (b : m ≤ n). let e : n ≡ m = omega arith in let f : bound_of r n ≡ bound_of r m = ap (bound_of r) e in omega arith) (cases_lt n m) in
+    λ n l. ⊎_elim (λ (a : n < m). omega (arith, below n a)) (λ (b : m ≤ n). let e : n ≡ m = omega arith in let f : bound_of r n ≡ bound_of r m = ap (bound_of r) e in omega arith) (cases_lt n m) in
     (owner, owners_at r (m + 1) (i + length h.entries) hs (omega arith) next under)
 
 -- the entries past the last domain's end are nobody's

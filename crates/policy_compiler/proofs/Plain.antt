@@ -1,21 +1,20 @@
 -- A write of an image changes its one word to the value that it writes: no lock is set.
-use Rattle.std.proofs.Common.{◌≡◌, ℕ, zero, suc, ◌+◌, ◌-◌, ◌*◌, ◌/◌, ◌%◌, ◌^◌, ◌<◌, ◌≤◌, Bool, true, false, not, ◌&&◌, ◌||◌, ◌==◌, eqb, ltb, leb, cond, List, [], ◌∷◌, ◌++◌, length, Option, Some, None, sum_by, bit_and, bit_or, get_or, set, arith, refl, sym, ap, ◌∙◌, subst, ⊎_elim}
-use Rattle.std.specs.Int.{bit_at, bit_not, w32}
+use Rattle.std.proofs.Common.{◌≡◌, ℕ, ◌+◌, ◌-◌, ◌*◌, ◌/◌, ◌%◌, ◌^◌, ◌<◌, ◌≤◌, true, false, ltb, List, [], ◌∷◌, ◌++◌, length, Option, Some, sum_by, bit_and, bit_or, get_or, set, arith, refl, sym, ap, ◌∙◌, subst, ⊎_elim}
+use Rattle.std.specs.Int.{bit_not, w32}
 use Rattle.std.specs.Int.Bits.{or_zero_l}
 use Rattle.std.specs.List.{AllByRecursion}
 use Rattle.std.proofs.Math.Nat.{mod-eq_of_lt}
 use Rattle.std.proofs.Math.Pow.{pow_mono}
 use Rattle.std.proofs.Math.ListN.{length-set}
-use Rattle.std.proofs.lemmas.Nat.{and_le_r, and_mask, pow_pos, pow-add}
+use Rattle.std.proofs.lemmas.Nat.{and_le_r, and_mask}
 use Rattle.std.proofs.lemmas.Nat.Bits.{bit_at-zero}
 use Rattle.std.proofs.lemmas.List.{get_or-set_same, get_or-set_other, get_or_past}
 use Rattle.std.proofs.lemmas.Bool.{cases_eq, cases_lt}
 use Rattle.std.proofs.lemmas.Bool.Decides.{nat_tests}
 use Rattle.event_words.specs.declared.shape.Shape.{Shape}
-use Rattle.event_words.specs.declared.register.Field.{Field}
 use Rattle.event_words.specs.declared.register.Register.{Register}
-use Rattle.event_words.specs.declared.register.Register.TheVariants.{Hwcfg0, Hwcfg2, Mdlck, Mdcfglck, Entrylck, Mdcfg, SrcmdEn, SrcmdPerm, EntryAddr, EntryAddrh, EntryCfg}
-use Rattle.event_words.specs.Registers.{Registers, word_at, bits_of, has_bit, index_of, register_at, named_at, srcmd_at, if_had, has_register, fields_of, ruled_word, merged, set_word, write_at, written, reset_word, index_count}
+use Rattle.event_words.specs.declared.register.Register.TheVariants.{Mdcfg, SrcmdEn, SrcmdPerm, EntryAddr, EntryAddrh, EntryCfg}
+use Rattle.event_words.specs.Registers.{Registers, word_at, bits_of, register_at, named_at, srcmd_at, if_had, has_register, fields_of, ruled_word, merged, set_word, write_at, written, reset_word, index_count}
 use Rattle.event_words.specs.Guards.{read_only_bits, locks_of, guards_of, guarded_bits, where_true, whole}
 use Rattle.event_words.proofs.Indexes.{register_at-EntryAddr, register_at-EntryAddrh, register_at-EntryCfg}
 use Rattle.policy_compiler.specs.declared.image.RegPair.{RegPair}
@@ -158,7 +157,7 @@ plain_enable h s v good f p even small = record {
       let top : 2 ^ h.domains ≤ 2 ^ 31 = pow_mono {j = 31} (omega arith) in
       let bit = c.enables f s (omega arith) in
       plain_write r (SrcmdEn s) (1024 + 8 * s) v (register_at-SrcmdEn r.shape s g (omega arith) (omega arith)) refl (enable_guards r s c.mdlck bit)
-          (enable_ruled r.shape.domains (word_at r (1024 + 8 * s)) v bit even (subst (λ n. v / 2 < 2 ^ n) d small)) (omega arith);
+      (enable_ruled r.shape.domains (word_at r (1024 + 8 * s)) v bit even (subst (λ n. v / 2 < 2 ^ n) d small)) (omega arith);
   high = omega arith;
   even = λ f s l e. even;
 }
@@ -184,7 +183,7 @@ plain_permission h m v good f p small = record {
       let many = good.valid.srcmd_rrids f in
       let top : 2 ^ (2 * h.rrids) ≤ 2 ^ 32 = pow_mono {j = 32} (omega arith) in
       plain_write r (SrcmdPerm m) (1024 + 8 * m) v (register_at-SrcmdPerm r.shape m g (omega arith) (omega arith)) refl (permission_guards r m c.mdlck)
-          (permission_ruled (2 * r.shape.rrids) v (subst (λ n. v < 2 ^ (2 * n)) k small)) (omega arith);
+      (permission_ruled (2 * r.shape.rrids) v (subst (λ n. v < 2 ^ (2 * n)) k small)) (omega arith);
   high = omega arith;
   even = λ e s l q. absurd (omega arith);
 }

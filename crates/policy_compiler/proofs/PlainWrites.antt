@@ -1,21 +1,19 @@
 -- Each write of an image's tables is a plain one.
-use Rattle.std.proofs.Common.{◌≡◌, ℕ, zero, suc, ◌+◌, ◌-◌, ◌*◌, ◌/◌, ◌%◌, ◌^◌, ◌<◌, ◌≤◌, Bool, true, false, ◌==◌, ◌||◌, ltb, cond, List, [], ◌∷◌, ◌++◌, length, length-append, append_assoc, arith, refl, sym, ap, ◌∙◌, subst}
+use Rattle.std.proofs.Common.{◌≡◌, ℕ, zero, suc, ◌+◌, ◌*◌, ◌/◌, ◌%◌, ◌^◌, ◌<◌, ◌≤◌, Bool, true, false, ◌==◌, ◌||◌, ltb, cond, List, [], ◌∷◌, ◌++◌, length, length-append, append_assoc, arith, refl, sym, ap, ◌∙◌}
 use Rattle.std.specs.List.{AllByRecursion}
 use Rattle.std.proofs.Math.Pow.{pow_mono}
 use Rattle.std.proofs.lemmas.Bool.Decides.{nat_tests}
 use Rattle.event_words.specs.declared.shape.Shape.{Shape}
-use Rattle.register_fields.specs.Rights.{rights_bits}
 use Rattle.policy_compiler.specs.declared.policy.Rule.{Rule}
 use Rattle.policy_compiler.specs.declared.read.rules.RuleKind.{RuleKind}
 use Rattle.policy_compiler.specs.declared.read.rules.RuleKind.TheVariants.{Guards, Grants}
 use Rattle.policy_compiler.specs.declared.hardware.EntryWords.{EntryWords}
-use Rattle.policy_compiler.specs.declared.image.RegPair.{RegPair}
 use Rattle.policy_compiler.specs.Policies.{DomainOf, IsRule, AreRules, is_single, IsPolicyShape}
-use Rattle.policy_compiler.specs.Images.{HardwareOf, single_entry, two_entries, rule_entries, entries_of, rules_of, is_empty, hardware_of, entry_count, pair, mdcfg_writes, enable_bits, enable_writes, permissions, permission_writes, entry_writes}
+use Rattle.policy_compiler.specs.Images.{HardwareOf, single_entry, two_entries, rule_entries, entries_of, rules_of, is_empty, hardware_of, entry_count, mdcfg_writes, enable_bits, enable_writes, permissions, permission_writes, entry_writes}
 use Rattle.policy_compiler.specs.Fitting.{HasRules}
-use Rattle.policy_compiler.proofs.Plain.{IsPlain, ArePlain, plain_mdcfg, plain_enable, plain_permission, plain_addr, plain_addrh, plain_cfg}
+use Rattle.policy_compiler.proofs.Plain.{ArePlain, plain_mdcfg, plain_enable, plain_permission, plain_addr, plain_addrh, plain_cfg}
 use Rattle.policy_compiler.proofs.Puts.{all_entries}
-use Rattle.policy_compiler.proofs.Masks.{mask, enables_mask, mask_small, quads, quads_small, permissions_is}
+use Rattle.policy_compiler.proofs.Masks.{enables_mask, mask_small, quads_small, permissions_is}
 
 -- ---- words of entries
 

@@ -1,11 +1,11 @@
 -- What words read after the writes of tables.
-use Rattle.std.proofs.Common.{◌≡◌, ℕ, zero, suc, ◌+◌, ◌-◌, ◌*◌, ◌/◌, ◌%◌, ◌^◌, ◌<◌, ◌≤◌, ◌⊎◌, inl, inr, Bool, true, false, cond, List, [], ◌∷◌, ◌++◌, length, Option, Some, None, get_or, set, arith, refl, sym, ap, ◌∙◌, subst, ⊎_elim}
+use Rattle.std.proofs.Common.{◌≡◌, ℕ, zero, suc, ◌+◌, ◌*◌, ◌/◌, ◌%◌, ◌^◌, ◌<◌, ◌≤◌, ◌⊎◌, inl, List, [], ◌∷◌, ◌++◌, length, get_or, set, arith, refl, sym, ap, ◌∙◌, ⊎_elim}
 use Rattle.std.specs.List.{AllByRecursion}
 use Rattle.std.proofs.Math.ListN.{length-set}
 use Rattle.std.proofs.lemmas.List.{get_or-set_same, get_or-set_other}
 use Rattle.policy_compiler.specs.declared.image.RegPair.{RegPair}
 use Rattle.policy_compiler.specs.declared.hardware.EntryWords.{EntryWords}
-use Rattle.policy_compiler.specs.Images.{HardwareOf, pair, entry_count, mdcfg_writes, enable_bits, enable_writes, permissions, permission_writes, entry_writes, hardware_writes}
+use Rattle.policy_compiler.specs.Images.{HardwareOf, pair, mdcfg_writes, enable_bits, enable_writes, permissions, permission_writes, entry_writes, hardware_writes}
 use Rattle.policy_compiler.proofs.Plain.{puts}
 
 -- ---- indexes that writes leave alone
@@ -61,13 +61,13 @@ mdcfg_read ws m before (h ∷ hs) zero room reset =
     let e : 512 + (m + zero) ≡ 512 + m = omega arith in
     ap (λ i. get_or (puts (set ws (512 + m) (before + length h.entries)) (mdcfg_writes (m + 1) (before + length h.entries) hs)) i 0) e
     ∙ (untouched (set ws (512 + m) (before + length h.entries)) (mdcfg_writes (m + 1) (before + length h.entries) hs) (512 + (m + 1)) (512 + ((m + 1) + length hs)) (512 + m)
-        (mdcfg_within (m + 1) (before + length h.entries) hs (512 + (m + 1)) (512 + ((m + 1) + length hs)) (omega arith) (omega arith)) (inl (omega arith))
+    (mdcfg_within (m + 1) (before + length h.entries) hs (512 + (m + 1)) (512 + ((m + 1) + length hs)) (omega arith) (omega arith)) (inl (omega arith))
     ∙ get_or-set_same ws (512 + m) (before + length h.entries) 0 (omega arith))
 mdcfg_read ws m before (h ∷ hs) (suc k) room reset =
     let e : 512 + (m + suc k) ≡ 512 + ((m + 1) + k) = omega arith in
     let v = before + length h.entries in
     let keeps : (length hs ≤ k → get_or (set ws (512 + m) (before + length h.entries)) (512 + ((m + 1) + k)) 0 ≡ 0) =
-        λ l. get_or-set_other ws (512 + m) (512 + ((m + 1) + k)) (before + length h.entries) 0 (λ q. absurd (omega arith)) ∙ (ap (λ i. get_or ws i 0) (sym e) ∙ reset (omega arith)) in
+    λ l. get_or-set_other ws (512 + m) (512 + ((m + 1) + k)) (before + length h.entries) 0 (λ q. absurd (omega arith)) ∙ (ap (λ i. get_or ws i 0) (sym e) ∙ reset (omega arith)) in
     ap (λ i. get_or (puts (set ws (512 + m) (before + length h.entries)) (mdcfg_writes (m + 1) (before + length h.entries) hs)) i 0) e
     ∙ mdcfg_read (set ws (512 + m) (before + length h.entries)) (m + 1) (before + length h.entries) hs k (omega (arith, length-set ws (512 + m) (before + length h.entries))) keeps
 
@@ -79,7 +79,7 @@ enables_read ws hs s (suc n) zero p room =
     let e : s + zero ≡ s = omega arith in
     ap (λ t. get_or (puts (set ws (1024 + 8 * s) (enable_bits s 0 hs)) (enable_writes hs (s + 1) n)) (1024 + 8 * t) 0) e
     ∙ (untouched (set ws (1024 + 8 * s) (enable_bits s 0 hs)) (enable_writes hs (s + 1) n) (1024 + 8 * (s + 1)) (1024 + 8 * ((s + 1) + n)) (1024 + 8 * s)
-        (enables_within hs (s + 1) n (1024 + 8 * (s + 1)) (1024 + 8 * ((s + 1) + n)) (omega arith) (omega arith)) (inl (omega arith))
+    (enables_within hs (s + 1) n (1024 + 8 * (s + 1)) (1024 + 8 * ((s + 1) + n)) (omega arith) (omega arith)) (inl (omega arith))
     ∙ (get_or-set_same ws (1024 + 8 * s) (enable_bits s 0 hs) 0 (omega arith) ∙ ap (λ t. enable_bits t 0 hs) (sym e)))
 enables_read ws hs s (suc n) (suc k) p room =
     let e : s + suc k ≡ (s + 1) + k = omega arith in
@@ -99,7 +99,7 @@ permissions_read ws rrids m (h ∷ hs) zero p room =
     let e : m + zero ≡ m = omega arith in
     ap (λ t. get_or (puts (set ws (1024 + 8 * m) (permissions rrids h.members)) (permission_writes rrids (m + 1) hs)) (1024 + 8 * t) 0) e
     ∙ (untouched (set ws (1024 + 8 * m) (permissions rrids h.members)) (permission_writes rrids (m + 1) hs) (1024 + 8 * (m + 1)) (1024 + 8 * ((m + 1) + length hs)) (1024 + 8 * m)
-        (permissions_within rrids (m + 1) hs (1024 + 8 * (m + 1)) (1024 + 8 * ((m + 1) + length hs)) (omega arith) (omega arith)) (inl (omega arith))
+    (permissions_within rrids (m + 1) hs (1024 + 8 * (m + 1)) (1024 + 8 * ((m + 1) + length hs)) (omega arith) (omega arith)) (inl (omega arith))
     ∙ get_or-set_same ws (1024 + 8 * m) (permissions rrids h.members) 0 (omega arith))
 permissions_read ws rrids m (h ∷ hs) (suc k) p room =
     let e : m + suc k ≡ (m + 1) + k = omega arith in
@@ -144,20 +144,22 @@ three_read ws i e room =
     let a = set ws (2048 + 4 * i) (e.word % 2 ^ 32) in
     let la = length-set ws (2048 + 4 * i) (e.word % 2 ^ 32) in
     let b = set (set ws (2048 + 4 * i) (e.word % 2 ^ 32)) (2049 + 4 * i) (e.word / 2 ^ 32) in
-    let lb = length-set (set ws (2048 + 4 * i) (e.word % 2 ^ 32)) (2049 + 4 * i) (e.word / 2 ^ 32) in
-    (get_or-set_other (set (set ws (2048 + 4 * i) (e.word % 2 ^ 32)) (2049 + 4 * i) (e.word / 2 ^ 32)) (2050 + 4 * i) (2048 + 4 * i) e.cfg 0 (λ q. absurd (omega arith))
-        ∙ (get_or-set_other (set ws (2048 + 4 * i) (e.word % 2 ^ 32)) (2049 + 4 * i) (2048 + 4 * i) (e.word / 2 ^ 32) 0 (λ q. absurd (omega arith)) ∙ get_or-set_same ws (2048 + 4 * i) (e.word % 2 ^ 32) 0 (omega arith)),
-    get_or-set_other (set (set ws (2048 + 4 * i) (e.word % 2 ^ 32)) (2049 + 4 * i) (e.word / 2 ^ 32)) (2050 + 4 * i) (2049 + 4 * i) e.cfg 0 (λ q. absurd (omega arith))
-        ∙ get_or-set_same (set ws (2048 + 4 * i) (e.word % 2 ^ 32)) (2049 + 4 * i) (e.word / 2 ^ 32) 0 (omega arith),
-    get_or-set_same (set (set ws (2048 + 4 * i) (e.word % 2 ^ 32)) (2049 + 4 * i) (e.word / 2 ^ 32)) (2050 + 4 * i) e.cfg 0 (omega arith))
+    let lb = length-set (set ws (2048 + 4 * i) (e.word % 2 ^ 32)) (2049 + 4 * i) (e.word / 2 ^ 32) in (
+      get_or-set_other (set (set ws (2048 + 4 * i) (e.word % 2 ^ 32)) (2049 + 4 * i) (e.word / 2 ^ 32)) (2050 + 4 * i) (2048 + 4 * i) e.cfg 0 (λ q. absurd (omega arith))
+          ∙ (get_or-set_other (set ws (2048 + 4 * i) (e.word % 2 ^ 32)) (2049 + 4 * i) (2048 + 4 * i) (e.word / 2 ^ 32) 0 (λ q. absurd (omega arith)) ∙ get_or-set_same ws (2048 + 4 * i) (e.word % 2 ^ 32) 0 (omega arith)),
+      get_or-set_other (set (set ws (2048 + 4 * i) (e.word % 2 ^ 32)) (2049 + 4 * i) (e.word / 2 ^ 32)) (2050 + 4 * i) (2049 + 4 * i) e.cfg 0 (λ q. absurd (omega arith))
+          ∙ get_or-set_same (set ws (2048 + 4 * i) (e.word % 2 ^ 32)) (2049 + 4 * i) (e.word / 2 ^ 32) 0 (omega arith),
+      get_or-set_same (set (set ws (2048 + 4 * i) (e.word % 2 ^ 32)) (2049 + 4 * i) (e.word / 2 ^ 32)) (2050 + 4 * i) e.cfg 0 (omega arith),
+    )
 
 pub entries_read : (ws : List ℕ) (i : ℕ) (es : List EntryWords) → 2048 + 4 * (i + length es) ≤ length ws → ReadsEntries (puts ws (entry_writes i es)) i es
 entries_read ws i [] room = tt
 entries_read ws i (e ∷ es) room =
     let here = three_read ws i e (omega arith) in
     let rest = entries_read (three ws i e) (i + 1) es (omega (arith, length_three ws i e)) in
-    let within = entries_within (i + 1) es (2048 + 4 * (i + 1)) (2048 + 4 * ((i + 1) + length es)) (omega arith) (omega arith) in
-    (untouched (three ws i e) (entry_writes (i + 1) es) (2048 + 4 * (i + 1)) (2048 + 4 * ((i + 1) + length es)) (2048 + 4 * i) within (inl (omega arith)) ∙ here.0,
-    untouched (three ws i e) (entry_writes (i + 1) es) (2048 + 4 * (i + 1)) (2048 + 4 * ((i + 1) + length es)) (2049 + 4 * i) within (inl (omega arith)) ∙ here.1,
-    untouched (three ws i e) (entry_writes (i + 1) es) (2048 + 4 * (i + 1)) (2048 + 4 * ((i + 1) + length es)) (2050 + 4 * i) within (inl (omega arith)) ∙ here.2,
-    rest)
+    let within = entries_within (i + 1) es (2048 + 4 * (i + 1)) (2048 + 4 * ((i + 1) + length es)) (omega arith) (omega arith) in (
+      untouched (three ws i e) (entry_writes (i + 1) es) (2048 + 4 * (i + 1)) (2048 + 4 * ((i + 1) + length es)) (2048 + 4 * i) within (inl (omega arith)) ∙ here.0,
+      untouched (three ws i e) (entry_writes (i + 1) es) (2048 + 4 * (i + 1)) (2048 + 4 * ((i + 1) + length es)) (2049 + 4 * i) within (inl (omega arith)) ∙ here.1,
+      untouched (three ws i e) (entry_writes (i + 1) es) (2048 + 4 * (i + 1)) (2048 + 4 * ((i + 1) + length es)) (2050 + 4 * i) within (inl (omega arith)) ∙ here.2,
+      rest,
+    )

@@ -1,26 +1,21 @@
 -- The entries of one rule, beside the rule.
-use Rattle.std.proofs.Common.{◌≡◌, ℕ, zero, suc, ◌+◌, ◌-◌, ◌*◌, ◌/◌, ◌%◌, ◌^◌, ◌<◌, ◌≤◌, Bool, true, false, IsTrue, not, ◌&&◌, ◌||◌, ◌==◌, eqb, ltb, leb, cond, List, [], ◌∷◌, ◌++◌, length, Option, Some, None, find, arith, refl, sym, ap, ◌∙◌, subst}
-use Rattle.std.specs.List.{range_with_len, list_any, list_all}
-use Rattle.std.specs.Option.{option_or}
-use Rattle.std.proofs.lemmas.Bool.Decides.{nat_tests}
+use Rattle.std.proofs.Common.{◌≡◌, ℕ, ◌+◌, ◌*◌, ◌/◌, ◌%◌, ◌^◌, ◌<◌, ◌≤◌, Bool, true, false, ◌==◌, eqb, [], ◌∷◌, arith, refl, ap, ◌∙◌}
 use Rattle.event_words.specs.declared.access.Access.{Access}
 use Rattle.event_words.specs.declared.access.Kind.{Kind}
 use Rattle.event_words.specs.declared.access.Kind.TheVariants.{Read, Write, Fetch}
 use Rattle.event_words.specs.declared.register.Register.TheVariants.{EntryCfg}
-use Rattle.event_words.specs.Registers.{Registers, has_bit, bits_of}
+use Rattle.event_words.specs.Registers.{Registers, has_bit}
 use Rattle.event_words.specs.Guards.{reg}
 use Rattle.event_words.specs.Word.{kind_code}
-use Rattle.event_words.specs.Valid.{IsValidAccess}
-use Rattle.event_words.specs.Entries.{word_address, touches, covers, is_byte_of, bytes_of}
-use Rattle.event_words.specs.Decisions.{prio_count, is_entry_of, entry_grants, is_touching, is_covering}
+use Rattle.event_words.specs.Entries.{touches, covers, is_byte_of, bytes_of}
 use Rattle.register_fields.specs.Rights.{rights_bits}
 use Rattle.policy_compiler.specs.declared.policy.Rule.{Rule}
 use Rattle.policy_compiler.specs.Policies.{IsRule, is_single}
-use Rattle.policy_compiler.specs.Images.{single_entry, two_entries, rule_entries}
-use Rattle.policy_compiler.specs.Decides.{is_between, rule_touches, rule_covers, rule_grants, allows}
+use Rattle.policy_compiler.specs.Images.{single_entry, two_entries}
+use Rattle.policy_compiler.specs.Decides.{is_between, rule_touches, rule_covers, rule_grants}
 use Rattle.policy_compiler.proofs.EntryBytes.{off_bytes, tor_bytes, single_bytes}
-use Rattle.policy_compiler.proofs.Finds.{any_alike, all_alike, any_never, all_never, never, both}
-use Rattle.policy_compiler.proofs.Held.{HoldsEntries, IsRun}
+use Rattle.policy_compiler.proofs.Finds.{any_alike, all_alike, any_never, all_never, never}
+use Rattle.policy_compiler.proofs.Held.{HoldsEntries}
 
 -- entry j is the rule: the same bytes, and the same right
 pub record IsRuleEntry (r : Registers) (a : Access) (j : ℕ) (u : Rule) : Type 0 where
@@ -65,7 +60,8 @@ single_held r a i u h s p =
 
 pub pair_held : (r : Registers) (a : Access) (i : ℕ) (u : Rule) → 1 ≤ a.len → IsRule u → HoldsEntries r i (two_entries u) → IsEmptyEntry r a i × IsRuleEntry r a (i + 1) u
 pair_held r a i u some h p =
-    let top : (u.from + u.size) % 4 ≡ 0 = omega (arith, h.from, h.size) in
-    (empty_entry r a i some (λ x. off_bytes r i x p.1),
-    rule_entry r a (i + 1) u (λ x. tor_bytes r i x u.from (u.from + u.size) (rights_bits u.rights) p.2.1 h.rights p.0 p.2.0 h.from top)
-        (right_of a.kind (rights_bits u.rights) 1 (reg r (EntryCfg (i + 1))) h.rights p.2.1))
+    let top : (u.from + u.size) % 4 ≡ 0 = omega (arith, h.from, h.size) in (
+      empty_entry r a i some (λ x. off_bytes r i x p.1),
+      rule_entry r a (i + 1) u (λ x. tor_bytes r i x u.from (u.from + u.size) (rights_bits u.rights) p.2.1 h.rights p.0 p.2.0 h.from top)
+          (right_of a.kind (rights_bits u.rights) 1 (reg r (EntryCfg (i + 1))) h.rights p.2.1),
+    )

@@ -1,13 +1,10 @@
 -- A search over the entries of a list of rules, beside one over the rules.
-use Rattle.std.proofs.Common.{◌≡◌, ℕ, zero, suc, ◌+◌, ◌-◌, ◌*◌, ◌<◌, ◌≤◌, Bool, true, false, not, ◌&&◌, ◌||◌, ◌==◌, eqb, ltb, leb, cond, List, [], ◌∷◌, ◌++◌, length, length-append, Option, Some, None, find, arith, refl, sym, ap, ◌∙◌, subst}
-use Rattle.std.specs.List.{range_with_len, list_any, list_all}
+use Rattle.std.proofs.Common.{◌≡◌, ℕ, ◌+◌, ◌<◌, ◌≤◌, Bool, true, false, ◌&&◌, ◌||◌, ltb, cond, List, [], ◌∷◌, ◌++◌, length, length-append, Option, Some, None, find, arith, refl, sym, ap, ◌∙◌, subst}
+use Rattle.std.specs.List.{range_with_len, list_any}
 use Rattle.std.specs.Option.{option_or}
 use Rattle.std.proofs.lemmas.Bool.Decides.{nat_tests}
 use Rattle.event_words.specs.declared.access.Access.{Access}
-use Rattle.event_words.specs.declared.register.Register.TheVariants.{EntryCfg}
-use Rattle.event_words.specs.Registers.{Registers, has_bit}
-use Rattle.event_words.specs.Guards.{reg}
-use Rattle.event_words.specs.Word.{kind_code}
+use Rattle.event_words.specs.Registers.{Registers}
 use Rattle.event_words.specs.Entries.{touches, covers}
 use Rattle.event_words.specs.Decisions.{prio_count, is_entry_of, entry_grants, is_touching, is_covering}
 use Rattle.policy_compiler.specs.declared.policy.Rule.{Rule}
@@ -17,7 +14,7 @@ use Rattle.policy_compiler.specs.Images.{single_entry, two_entries, rule_entries
 use Rattle.policy_compiler.specs.Decides.{rule_touches, rule_covers, rule_grants, allows}
 use Rattle.policy_compiler.proofs.Finds.{find_range, any_range, both}
 use Rattle.policy_compiler.proofs.Held.{HoldsEntries, IsRun, entries_split, shorter_run}
-use Rattle.policy_compiler.proofs.RuleAt.{IsRuleEntry, IsEmptyEntry, single_held, pair_held}
+use Rattle.policy_compiler.proofs.RuleAt.{IsRuleEntry, single_held, pair_held}
 
 -- ---- what is found
 

@@ -1,9 +1,8 @@
 -- What a policy decides about an access, by its rules in the order of the text.
-use Rattle.std.specs.Prelude.{ℕ, ◌+◌, ◌&&◌, ◌||◌, nat_le, nat_lt, Bool, true, false, not, if◌then◌else◌, List, [], ◌∷◌, Option, None, Some, find}
+use Rattle.std.specs.Prelude.{ℕ, ◌+◌, ◌&&◌, ◌||◌, nat_le, nat_lt, Bool, false, not, if◌then◌else◌, List, [], ◌∷◌, Option, None, Some, find}
 use Rattle.std.specs.List.{list_any, list_all}
 use Rattle.std.specs.Option.{option_or}
 use Rattle.event_words.specs.declared.access.Access.{Access}
-use Rattle.event_words.specs.declared.access.Kind.{Kind}
 use Rattle.event_words.specs.Entries.{bytes_of}
 use Rattle.event_words.specs.Registers.{has_bit}
 use Rattle.event_words.specs.Word.{kind_code}

@@ -1,6 +1,5 @@
 -- Domains whose rules can be compiled, and lists of hardware domains that fit a unit.
-use Rattle.std.specs.Prelude.{ℕ, ◌≤◌, ◌<◌, ◌^◌, List, length}
-use Rattle.std.specs.List.{AllByRecursion}
+use Rattle.std.specs.Prelude.{◌≤◌, List, length}
 use Rattle.policy_compiler.specs.Policies.{DomainOf, AreRules}
 use Rattle.policy_compiler.specs.Images.{HardwareOf, entry_count}
 

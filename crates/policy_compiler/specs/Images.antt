@@ -1,5 +1,5 @@
 -- The register writes that make a unit decide as a policy does.
-use Rattle.std.specs.Prelude.{◌≡◌, ℕ, zero, suc, ◌+◌, ◌-◌, ◌*◌, ◌^◌, ◌/◌, ◌%◌, ◌==◌, ◌&&◌, nat_lt, Bool, not, if◌then◌else◌, List, [], ◌∷◌, ◌++◌, length}
+use Rattle.std.specs.Prelude.{ℕ, zero, suc, ◌+◌, ◌-◌, ◌*◌, ◌^◌, ◌/◌, ◌%◌, ◌==◌, Bool, if◌then◌else◌, List, [], ◌∷◌, ◌++◌, length}
 use Rattle.event_words.specs.declared.shape.Shape.{Shape}
 use Rattle.event_words.specs.declared.register.Register.TheVariants.{Hwcfg0, Hwcfg2, Mdcfg, SrcmdEn, SrcmdPerm, EntryAddr, EntryAddrh, EntryCfg}
 use Rattle.event_words.specs.Registers.{index_of, has_bit}

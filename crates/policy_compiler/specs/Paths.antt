@@ -1,5 +1,5 @@
 -- How a place in a policy is written.
-use Rattle.std.specs.Prelude.{ℕ, ◌++◌, ◌==◌, List, [], ◌∷◌, if◌then◌else◌, codes}
+use Rattle.std.specs.Prelude.{ℕ, ◌++◌, ◌==◌, List, if◌then◌else◌, codes}
 use Rattle.std.specs.Fmt.{decimal}
 use Rattle.policy_compiler.specs.declared.path.Part.{Part}
 use Rattle.policy_compiler.specs.declared.path.Part.TheVariants.{Top, Unit as UnitTable, Domain, Guard, Grant}

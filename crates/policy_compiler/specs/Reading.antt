@@ -1,10 +1,9 @@
 -- What policy a document stands for, read off its tree, or the first fault.
-use Rattle.std.specs.Prelude.{ℕ, ◌+◌, ◌-◌, ◌^◌, ◌≤◌, ◌==◌, ◌&&◌, ◌||◌, nat_le, not, Bool, false, if◌then◌else◌, List, [], ◌∷◌, ◌++◌, length, codes, Option, None, Some, Result, Ok, Err, bit_or}
+use Rattle.std.specs.Prelude.{ℕ, ◌+◌, ◌-◌, ◌^◌, ◌==◌, ◌&&◌, ◌||◌, nat_le, not, Bool, false, if◌then◌else◌, List, [], ◌∷◌, ◌++◌, length, codes, Option, None, Some, Result, Ok, Err, bit_or}
 use Rattle.std.specs.List.{list_any, list_all}
 use Rattle.std.specs.Str.{bytes_eq}
 use Rattle.toml.specs.Data.{Data, Items, no_items, item, Members, get_member, as_str, as_table, as_array}
 use Rattle.event_words.specs.declared.shape.Shape.{Shape}
-use Rattle.policy_compiler.specs.declared.path.Part.{Part}
 use Rattle.policy_compiler.specs.declared.path.Part.TheVariants.{Top, Unit as UnitTable, Domain}
 use Rattle.policy_compiler.specs.declared.path.Path.{Path}
 use Rattle.policy_compiler.specs.declared.path.Fault.{Fault}

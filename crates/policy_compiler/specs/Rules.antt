@@ -1,5 +1,5 @@
 -- What rule a table stands for, or its first fault.
-use Rattle.std.specs.Prelude.{ℕ, ◌+◌, ◌-◌, ◌^◌, ◌%◌, ◌==◌, ◌&&◌, ◌||◌, nat_le, nat_lt, Bool, if◌then◌else◌, List, [], ◌∷◌, ◌++◌, codes, Option, None, Some, Result, Ok, Err}
+use Rattle.std.specs.Prelude.{ℕ, ◌+◌, ◌-◌, ◌^◌, ◌%◌, ◌==◌, ◌&&◌, ◌||◌, nat_le, nat_lt, if◌then◌else◌, List, [], ◌∷◌, ◌++◌, codes, Option, None, Some, Result, Ok, Err}
 use Rattle.std.specs.Str.{bytes_eq}
 use Rattle.toml.specs.Data.{Data, Items, no_items, item, Members, get_member, as_str, as_table, as_array}
 use Rattle.register_fields.specs.declared.rights.Rights.{Rights}
@@ -12,7 +12,7 @@ use Rattle.policy_compiler.specs.declared.policy.Rule.{Rule}
 use Rattle.policy_compiler.specs.declared.read.rules.RuleKind.{RuleKind}
 use Rattle.policy_compiler.specs.declared.read.rules.RuleKind.TheVariants.{Guards, Grants}
 use Rattle.policy_compiler.specs.Policies.{is_single}
-use Rattle.policy_compiler.specs.Tables.{◌>>=◌, path_of, has_other_key, typed, required, optional, number_in, are_tables, item_count}
+use Rattle.policy_compiler.specs.Tables.{◌>>=◌, path_of, has_other_key, typed, required, number_in, are_tables, item_count}
 
 -- where a rule begins: a multiple of 4 below 2 ^ 40
 unfoldable pub from_in : Path → Data → Result ℕ Fault

@@ -5,7 +5,8 @@ use std::test::Fail;
 
 const UNIT: &str = "[unit]\nrrids = 2\ndomains = 4\nentries = 5\nqueue = 2\n";
 
-const DOMAINS: &str = "[[domain]]\nname = \"a\"\nrrids = [0]\nguard = [{from = 0x1000, size = 0x3000, rights = \"r\"}]\ngrant = [{from = 0, size = 0x8000, rights = \"rw\"}]\n[[domain]]\nname = \"b\"\nrrids = [1]\nguard = [{from = 0, size = 4, rights = \"\"}]\ngrant = [{from = 0x8000, size = 0x1000, rights = \"rwx\"}]\n";
+const DOMAINS: &str =
+    "[[domain]]\nname = \"a\"\nrrids = [0]\nguard = [{from = 0x1000, size = 0x3000, rights = \"r\"}]\ngrant = [{from = 0, size = 0x8000, rights = \"rw\"}]\n[[domain]]\nname = \"b\"\nrrids = [1]\nguard = [{from = 0, size = 4, rights = \"\"}]\ngrant = [{from = 0x8000, size = 0x1000, rights = \"rwx\"}]\n";
 
 const WRITES: [(u32, u32); 23] = [
     (0x10, 0x3),

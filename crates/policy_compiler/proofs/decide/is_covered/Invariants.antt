@@ -1,5 +1,5 @@
 -- What is left answers as the whole does.
-use Rattle.std.proofs.Common.{◌≡◌, drop, find}
+use Rattle.std.proofs.Common.{◌≡◌, drop}
 use Rattle.policy_compiler.specs.Decides.{rule_covers, any_grant}
 use Rattle.policy_compiler.proofs.decide.is_covered.Given as goal
 

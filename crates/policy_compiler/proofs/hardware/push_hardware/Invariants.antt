@@ -1,5 +1,5 @@
 -- What is done so far, and what is left, make the whole.
-use Rattle.std.proofs.Common.{◌≡◌, ◌≤◌, ◌<◌, ◌+◌, ◌-◌, ◌*◌, ◌^◌, ◌++◌, drop, length}
+use Rattle.std.proofs.Common.{◌≡◌, ◌++◌, drop}
 use Rattle.policy_compiler.specs.Images.{hardware_of}
 use Rattle.std.specs.List.{AllByRecursion}
 use Rattle.policy_compiler.specs.Fitting.{HasRules}

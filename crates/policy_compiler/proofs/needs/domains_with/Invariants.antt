@@ -1,5 +1,5 @@
 -- What is done so far, and what is left, make the whole.
-use Rattle.std.proofs.Common.{◌≡◌, ◌≤◌, ◌<◌, ◌+◌, ◌-◌, ◌*◌, ◌^◌, ◌++◌, drop, length}
+use Rattle.std.proofs.Common.{◌≡◌, ◌≤◌, ◌+◌, drop}
 use Rattle.policy_compiler.specs.Needs.{domains_with}
 use Rattle.policy_compiler.proofs.needs.domains_with.Given as goal
 

@@ -1,5 +1,5 @@
 -- What is done so far, and what is left, make the whole.
-use Rattle.std.proofs.Common.{◌≡◌, ◌≤◌, ◌<◌, ◌+◌, ◌-◌, ◌*◌, ◌^◌, ◌++◌, drop, length}
+use Rattle.std.proofs.Common.{◌≡◌, ◌<◌, ◌+◌, ◌^◌, drop}
 use Rattle.policy_compiler.specs.Images.{enable_bits}
 use Rattle.policy_compiler.proofs.writes.enable_bits.Given as goal
 

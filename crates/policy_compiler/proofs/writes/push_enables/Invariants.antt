@@ -1,5 +1,5 @@
 -- What is done so far, and what is left, make the whole.
-use Rattle.std.proofs.Common.{◌≡◌, ◌≤◌, ◌<◌, ◌+◌, ◌-◌, ◌*◌, ◌^◌, ◌++◌, drop, length}
+use Rattle.std.proofs.Common.{◌≡◌, ◌-◌, ◌++◌}
 use Rattle.policy_compiler.specs.Images.{enable_writes}
 use Rattle.policy_compiler.proofs.writes.push_enables.Given as goal
 

@@ -1,4 +1,4 @@
-use Rattle.std.proofs.Common.{◌≡◌, ◌<◌, ◌^◌, ℕ, bit_or, arith}
+use Rattle.std.proofs.Common.{◌^◌}
 use Rattle.std.proofs.lemmas.Nat.{or_lt, one_shl}
 use Rattle.std.proofs.Math.Pow.{pow-lt}
 use Rattle.policy_compiler.proofs.read.domain.with_rrid.Goals as goal
