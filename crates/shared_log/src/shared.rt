@@ -116,7 +116,7 @@ pub fn split<M: Machine>(shared: &Shared, first: &mut Caller<M>, fresh: M) -> Ca
     requires number { first.old.number ≡ 0 }
     requires made { first.old.made < shared.now.callers }
     requires state { M.state fresh ≡ first.old.first }
-    requires machine { (M.next_place fresh ≡ 0) × (M.places fresh ≡ M.places first.old.machine) }
+    requires machine { (M.next_place fresh ≡ 0) × (shared.now.callers * shared.now.budget ≤ M.places fresh) }
     ensures first { first.new ≡ record first.old { made = first.old.made + 1 } }
     ensures belongs { Belongs result shared.now }
     ensures number { result.number ≡ first.old.made }

@@ -12,7 +12,7 @@ bring_up-machine-requires g c =
     let i = c.first.invariant.1 in
     let end : c.first.inside.place ≤ c.args.shared.now.callers * c.args.shared.now.budget =
     let s = i.small in let w = i.words_are in let v = ap (λ n. n.callers * n.budget) c.first.view_is in let b = ap (λ k. k * c.args.first.now.budget) c.requires.belongs.1 in let d = ap (λ k. c.args.shared.now.callers * k) c.requires.belongs.2 in omega arith in
-    let room : c.first.inside.place ≤ g.M.Machine.places c.args.fresh = let s = i.small in let w = i.words_are in let f = i.fits in let p = c.requires.machine.1 in let m = ap (λ n. g.M.Machine.places n.machine) c.first.view_is in omega arith in record {
+    let room : c.first.inside.place ≤ g.M.Machine.places c.args.fresh = let e = end in let p = c.requires.machine.1 in omega arith in record {
       seat = (ap (λ n. n.table) c.first.view_is ∙ c.requires.belongs.0, i.live);
       end = (i.place_is, end);
       machine = (c.requires.machine.0, room);
@@ -46,7 +46,7 @@ invariant_of-result g c =
     let start : m.state c.first.inside.first.value ≡ m.state c.args.fresh = ap (λ n. n.first) c.first.view_is ∙ sym c.requires.state in
     let few : v.made < v.callers = let a = c.requires.made in let b = c.requires.belongs.1 in let e = ap (λ n. n.made) c.first.view_is in let f = ap (λ n. n.callers) c.first.view_is in omega arith in
     let zeroth : v.number ≡ 0 = ap (λ n. n.number) c.first.view_is ∙ c.requires.number in
-    let room : v.callers * v.budget ≤ m.places c.bring_up-machine.result = let a = up.places in let f = i.fits in let p = c.requires.machine.1 in let q = ap (λ n. m.places n.machine) c.first.view_is in omega arith in
+    let room : v.callers * v.budget ≤ m.places c.bring_up-machine.result = let a = up.places in let p = c.requires.machine.1 in let e = ap (λ n. n.callers * n.budget) c.first.view_is in let b = ap (λ k. k * c.args.first.now.budget) c.requires.belongs.1 in let d = ap (λ k. c.args.shared.now.callers * k) c.requires.belongs.2 in omega arith in
     let new = new_caller_fields m.state m.next_place m.places m.after i zeroth few c.bring_up-machine.result (up.state ∙ ap (λ s. run m.after s v.log) (sym start)) up.next room in (
       ap (λ x. x.1) me,
       rw (ap (λ x. x.0) me, ap (λ t. t.words) table, c.of-origin.ensures, ← start) new,
