@@ -1,0 +1,3 @@
+pub mod Repeats
+pub mod UnitLines
+pub mod Endings

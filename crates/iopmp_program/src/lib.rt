@@ -1,0 +1,20 @@
+//! The program: a script is read, played by its lanes on one shared log, and the history is printed.
+//!
+//! The definitions of what the program answers stand in `specs/`, one file an idea.
+#![tactic(auto)]
+
+mod command;
+mod fault_line;
+mod memory;
+mod playing;
+mod program;
+mod record;
+mod replay;
+mod reports;
+mod status;
+
+pub use memory::NoMemory;
+pub use playing::play;
+pub use program::top;
+pub use reports::report;
+pub use status::{Outcome, Status};
