@@ -1,7 +1,6 @@
 -- Sections of commands: what is valid, and how many events they make at most.
 use Rattle.std.specs.Prelude.{◌≡◌, ℕ, ◌+◌, ◌*◌, ◌^◌, ◌<◌, ◌≤◌, Bool, true, false, List, [], ◌∷◌, if◌then◌else◌, length, take, count_by, sum_by}
 use Rattle.std.specs.List.{AllByRecursion}
-use Rattle.event_words.specs.declared.access.Access.{Access}
 use Rattle.event_words.specs.declared.section.Stages.{Stages}
 use Rattle.event_words.specs.declared.section.Command.{Command}
 use Rattle.event_words.specs.declared.section.Command.TheVariants.{Write, Read, Submit, Judge, Settle, Until, Through}

@@ -11,8 +11,8 @@ use Rattle.event_words.specs.Registers.{has_bit}
 use Rattle.event_words.specs.Guards.{reg}
 use Rattle.event_words.specs.Events.{unit_of}
 use Rattle.unit_core.specs.Units.{UnitState, unit_step, submit_step, is_stalled, queue_length}
-use Rattle.unit_core.specs.Histories.{event_at}
-use Rattle.history_laws.specs.Busy.{LawBusy}
+use Rattle.unit_core.specs.Histories.{History, event_at}
+use Rattle.history_laws.specs.Busy.{KeepsBusy}
 use Rattle.history_laws.proofs.Items.{judge_cases}
 use Rattle.history_laws.proofs.Runs.{own_state, own_at, reply_is, event_of, answered_shape}
 use Rattle.history_laws.proofs.QueueLaw.{own_sound}
@@ -50,7 +50,7 @@ step_busy k x (Judge unit caller place) q =
     (λ item e f v q. let n : replies.Verdict v ≡ replies.Busy = q in cc)
     (λ item e f d v q. let n : replies.Verdict v ≡ replies.Busy = q in cc) q)
 
-pub law_busy : LawBusy
+pub law_busy : (h : History) → KeepsBusy h
 law_busy h k busy =
     let here = event_of h k replies.Busy busy in
     let e = here.0 in

@@ -1,5 +1,5 @@
 -- The word of a valid event is read back as the event.
-use Rattle.std.proofs.Common.{◌≡◌, ℕ, ◌+◌, ◌-◌, ◌*◌, ◌^◌, ◌/◌, ◌%◌, ◌<◌, ◌≤◌, Bool, true, cond, eqb, leb, ltb, Option, Some, None, refl, sym, ap, ◌∙◌, subst, arith}
+use Rattle.std.proofs.Common.{◌≡◌, ℕ, ◌+◌, ◌-◌, ◌*◌, ◌^◌, ◌/◌, ◌%◌, ◌<◌, ◌≤◌, cond, eqb, leb, ltb, Option, Some, None, refl, ap, ◌∙◌, arith}
 use Rattle.std.specs.Prelude.{option_map, option_and_then}
 use Rattle.std.proofs.lemmas.Bool.{cond-true, le-leb, lt-ltb}
 use Rattle.event_words.specs.declared.access.Access.{Access}
@@ -8,7 +8,7 @@ use Rattle.event_words.specs.declared.access.Kind.TheVariants.{Read, Write, Fetc
 use Rattle.event_words.specs.declared.event.Event.{Event}
 use Rattle.event_words.specs.declared.event.Event.TheVariants.{RegWrite, RegRead, Submit, Judge}
 use Rattle.event_words.specs.Word.{kind_code, kind_at, word_with, word_of, access_word, access_at, event_with, event_at}
-use Rattle.event_words.specs.Valid.{IsValidAccess, IsValidHead, IsValidEvent}
+use Rattle.event_words.specs.Valid.{IsValidAccess, IsValidEvent}
 use Rattle.event_words.specs.Runs.{IsEventWord}
 
 kind_part : (kind caller unit rest : ℕ) → caller < 32 → unit < 4 → rest < 2 ^ 54 → word_with kind caller unit rest / 2 ^ 61 ≡ kind

@@ -224,7 +224,7 @@ own_follows es u shape v j (suc k) l = ⊎_elim
     (cases_eq j (suc k))
 
 pub law_guards : LawGuards
-law_guards h u j k x y valid l p q index i g =
+law_guards h valid u j k x y l p q index i g =
     let there = shape_there h u j x p in
     let shape = there.0 in
     let v = subst IsValidShape (get_or_from_slice_get h.shapes u shape shape there.1) (valid u shape (slice_get_within h.shapes u shape there.1)) in

@@ -67,10 +67,6 @@ pub all_map : {X : Type 0} (P Q : X → Type 0) (f : X → X) (xs : List X) → 
 all_map P Q f [] each h = tt
 all_map P Q f (x ∷ xs) each h = (each x h.0, all_map P Q f xs each h.1)
 
-pub all_made : {X : Type 0} (Q : X → Type 0) (f : X → X) (xs : List X) → ((x : X) → Q (f x)) → AllByRecursion Q (map f xs)
-all_made Q f [] each = tt
-all_made Q f (x ∷ xs) each = (each x, all_made Q f xs each)
-
 pub all_without : (P : Submission → Type 0) (place caller : ℕ) (xs : List Submission) → AllByRecursion P xs → AllByRecursion P (without_item place caller xs)
 all_without P place caller [] h = tt
 all_without P place caller (x ∷ xs) h =

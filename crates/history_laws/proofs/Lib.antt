@@ -14,3 +14,4 @@ pub mod EventWords
 pub mod WordHistories
 pub mod LoggedTests
 pub mod TicketReplies
+pub mod Examples

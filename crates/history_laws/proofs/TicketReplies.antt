@@ -1,5 +1,5 @@
 -- A judgement of a ticket by its caller replies Held or a verdict, where no verdict on it is logged.
-use Rattle.std.proofs.Common.{◌≡◌, ℕ, suc, zero, ◌+◌, ◌^◌, ◌<◌, ◌≤◌, Bool, true, false, List, [], ◌∷◌, ◌++◌, Option, Some, None, length, map, take, eqb, refl, sym, ap, ◌∙◌, subst, arith, ⊎_elim, ◌⊎◌, inl, inr}
+use Rattle.std.proofs.Common.{◌≡◌, ℕ, suc, zero, ◌<◌, Bool, true, false, List, [], ◌∷◌, ◌++◌, Some, None, length, map, refl, sym, ap, ◌∙◌, subst, arith, ⊎_elim, ◌⊎◌, inl, inr}
 use Rattle.std.specs.Prelude.{slice_get}
 use Rattle.std.specs.List.{AllByRecursion, list_any}
 use Rattle.std.proofs.lemmas.Bool.{cases_eq, eq-eqb}
@@ -19,12 +19,12 @@ use Rattle.event_words.specs.Valid.{IsValidEvent}
 use Rattle.event_words.specs.Events.{caller_of}
 use Rattle.event_words.specs.Records.{is_by, events_by}
 use Rattle.event_words.specs.Runs.{IsEventWord, run}
-use Rattle.unit_core.specs.Units.{UnitState, unit_at_reset}
+use Rattle.unit_core.specs.Units.{unit_at_reset}
 use Rattle.unit_core.specs.Fabrics.{state_after_word, reply_to_word}
 use Rattle.unit_core.specs.Histories.{History, event_at, reply_at, history_of, events_of_words, units_after, logged_in}
 use Rattle.unit_core.proofs.HeldBack.{all_append}
 use Rattle.history_laws.specs.Tickets.{IsTaken, IsOwnJudgement, IsOwnVerdict}
-use Rattle.history_laws.proofs.TicketLaw.{IsClosedBefore, ticket_at}
+use Rattle.history_laws.proofs.TicketLaw.{ticket_at}
 use Rattle.history_laws.proofs.EventWords.{is_event_word, event_at_word}
 use Rattle.history_laws.proofs.WordHistories.{word_at_place, event_at_words, reply_at_words, is_entry, has_entry, length_events}
 use Rattle.history_laws.proofs.LoggedTests.{found_kept, none_kept}

@@ -1,17 +1,18 @@
 -- A list of event words as a history: what stands at each place, and what is logged of it.
-use Rattle.std.proofs.Common.{◌≡◌, ℕ, suc, zero, ◌+◌, ◌<◌, List, [], ◌∷◌, ◌++◌, Option, Some, None, length, map, take, refl, sym, ap, ◌∙◌, subst, arith}
+use Rattle.std.proofs.Common.{◌≡◌, ℕ, suc, zero, ◌+◌, List, [], ◌∷◌, Option, Some, None, length, map, take, refl, sym, ap, ◌∙◌, subst, arith}
 use Rattle.std.specs.Prelude.{slice_get, option_map, option_and_then}
 use Rattle.std.specs.List.{AllByRecursion}
 use Rattle.event_words.specs.declared.shape.Shape.{Shape}
 use Rattle.event_words.specs.declared.event.Event.{Event}
 use Rattle.event_words.specs.declared.reply.Reply.{Reply}
 use Rattle.event_words.specs.declared.record.LoggedEvent.{LoggedEvent}
-use Rattle.event_words.specs.Word.{event_at as event_of_word}
+use Rattle.event_words.specs.Word.{word_of, event_at as event_of_word}
+use Rattle.event_words.specs.Valid.{IsValidEvent}
 use Rattle.event_words.specs.Runs.{IsEventWord, run, run_from, logged_first, logged_from}
 use Rattle.unit_core.specs.Units.{UnitState, unit_at_reset, event_step, decoded_step}
 use Rattle.unit_core.specs.Fabrics.{state_after_word, reply_to_word}
-use Rattle.unit_core.specs.Histories.{History, after_event, units_at, event_at, reply_at, with_event, events_of_words, history_of, units_after, logged_in}
-use Rattle.history_laws.proofs.EventWords.{HasEvent, word_event}
+use Rattle.unit_core.specs.Histories.{after_event, units_at, event_at, reply_at, with_event, events_of_words, history_of, logged_in}
+use Rattle.history_laws.proofs.EventWords.{HasEvent, word_event, event_at_word}
 
 -- ---- events
 
@@ -38,6 +39,9 @@ word_at_place (v ∷ ws) all (suc k) w q = word_at_place ws all.1 k w q
 
 pub event_at_words : (shapes : List Shape) (words : List ℕ) → AllByRecursion IsEventWord words → (k w : ℕ) (e : Event) → slice_get words k ≡ Some w → event_of_word w ≡ Some e → event_at (history_of shapes words) k ≡ Some e
 event_at_words shapes words all k w e q r = events_at_words words all k ∙ ap (option_and_then event_of_word) q ∙ r
+
+pub event_at_word_of : (shapes : List Shape) (words : List ℕ) → AllByRecursion IsEventWord words → (k : ℕ) (e : Event) → IsValidEvent e → slice_get words k ≡ Some (word_of e) → event_at (history_of shapes words) k ≡ Some e
+event_at_word_of shapes words all k e valid q = event_at_words shapes words all k (word_of e) e q (event_at_word e valid)
 
 -- ---- units
 
@@ -108,6 +112,17 @@ logged_at j us (w ∷ ws) all (suc k) =
     ap (λ o. slice_get (logged_first j (reply_to_word us j w) o (logged_from state_after_word reply_to_word (suc j) (state_after_word us j w) ws)) (suc k)) e.back
     ∙ logged_at (suc j) (state_after_word us j w) ws all.1 k
     ∙ ap (λ n. entry n (option_and_then event_of_word (slice_get ws k)) (option_map (reply_to_word (run_from state_after_word (suc j) (state_after_word us j w) (take k ws)) n) (slice_get ws k))) q
+
+length_from : (j : ℕ) (us : List UnitState) (words : List ℕ) → AllByRecursion IsEventWord words → length (logged_from state_after_word reply_to_word j us words) ≡ length words
+length_from j us [] all = refl
+length_from j us (w ∷ ws) all =
+    let e = word_event w all.0 in
+    ap (λ o. length (logged_first j (reply_to_word us j w) o (logged_from state_after_word reply_to_word (suc j) (state_after_word us j w) ws))) e.back
+    ∙ ap suc (length_from (suc j) (state_after_word us j w) ws all.1)
+
+-- There is an entry for each word.
+pub length_logged : (shapes : List Shape) (words : List ℕ) → AllByRecursion IsEventWord words → length (logged_in shapes words) ≡ length words
+length_logged shapes words all = length_from 0 (map unit_at_reset shapes) words all
 
 -- The entry of a place has the place, its event and its reply, and there are no others.
 pub logged_in_at : (shapes : List Shape) (words : List ℕ) → AllByRecursion IsEventWord words → (k : ℕ)

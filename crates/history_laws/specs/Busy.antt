@@ -22,5 +22,5 @@ pub record FindsFullQueue (h : History) (k : ℕ) : Type 0 where
   pub silent : has_bit (reg state.registers ErrCfg) 3 ≡ false
 
 -- Busy stands only where the queue is full.
-abbrev pub LawBusy : Type 0
-LawBusy = (h : History) (k : ℕ) → reply_at h k ≡ Some Busy → FindsFullQueue h k
+abbrev pub KeepsBusy : History → Type 0
+KeepsBusy h = (k : ℕ) → reply_at h k ≡ Some Busy → FindsFullQueue h k

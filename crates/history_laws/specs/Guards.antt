@@ -9,6 +9,11 @@ abbrev pub KeepsGuardedBits : UnitState → UnitState → Type 0
 KeepsGuardedBits x y =
     (index i : ℕ) → is_guarded x index i ≡ true → (is_guarded y index i ≡ true) × (bit_of y index i ≡ bit_of x index i)
 
--- A bit that is guarded at a place is guarded at each later place, and has the same value there.
+-- A bit of unit u that is guarded at place j is guarded at each later place k, and has the same value
+-- there.
+abbrev pub KeepsGuards : History → Type 0
+KeepsGuards h =
+    (u j k : ℕ) (x y : UnitState) → j ≤ k → state_at h j u ≡ Some x → state_at h k u ≡ Some y → KeepsGuardedBits x y
+
 abbrev pub LawGuards : Type 0
-LawGuards = (h : History) (u j k : ℕ) (x y : UnitState) → All IsValidShape h.shapes → j ≤ k → state_at h j u ≡ Some x → state_at h k u ≡ Some y → KeepsGuardedBits x y
+LawGuards = (h : History) → All IsValidShape h.shapes → KeepsGuards h

@@ -3,5 +3,8 @@ use Rattle.unit_core.specs.Histories.{History}
 use Rattle.unit_core.specs.Windows.{IsInDrainedWindow, IsVerdictOn}
 
 -- No place in a drained window of a requester is a verdict on an access of that requester.
+abbrev pub KeepsWindows : History → Type 0
+KeepsWindows h = (u s b p : ℕ) → IsInDrainedWindow h u s b p → IsVerdictOn h u s p → ⊥
+
 abbrev pub LawWindows : Type 0
-LawWindows = (h : History) (u s b p : ℕ) → IsInDrainedWindow h u s b p → IsVerdictOn h u s p → ⊥
+LawWindows = (h : History) → KeepsWindows h

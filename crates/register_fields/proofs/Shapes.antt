@@ -1,14 +1,9 @@
-use Rattle.std.proofs.Common.{◌≡◌, ℕ, ◌+◌, ◌-◌, ◌*◌, ◌^◌, ◌<◌, ◌≤◌, List, [], ◌∷◌, Bool, true, false, Option, Some, None, sum_by, arith, refl}
-use Rattle.std.specs.Prelude.{is_some}
+use Rattle.std.proofs.Common.{ℕ, ◌^◌, ◌≤◌, [], ◌∷◌, arith}
 use Rattle.std.proofs.Math.Pow.{pow_mono}
-use Rattle.event_words.specs.declared.shape.Shape.{Shape}
-use Rattle.event_words.specs.declared.register.Field.{Field}
 use Rattle.event_words.specs.declared.register.Rule.{Rule}
-use Rattle.event_words.specs.declared.register.Rule.TheVariants.{ReadOnly, ReadWrite, SetOnly, ClearOnly}
+use Rattle.event_words.specs.declared.register.Rule.TheVariants.{ReadOnly, SetOnly, ClearOnly}
 use Rattle.event_words.specs.Registers.{field}
-use Rattle.event_words.specs.Guards.{field_bits}
-use Rattle.event_words.specs.Valid.{IsValidShape}
-use Rattle.register_fields.specs.Tables.{IsField, IsTable}
+use Rattle.register_fields.specs.Tables.{IsTable}
 
 -- the fields of the first configuration register lie apart
 pub IsTable_hwcfg0 : (domains mdcfg srcmd sps transl k : ℕ) (rule : Rule) → domains ≤ 31 → mdcfg ≤ 2 → srcmd ≤ 2 → sps ≤ 1 → transl ≤ 1 → k ≤ 127

@@ -1,10 +1,8 @@
-use Rattle.std.specs.Prelude.{ℕ, ◌+◌, ◌-◌, ◌*◌, ◌^◌, ◌<◌, ◌≤◌, ◌≡◌, List, length, sum_by}
+use Rattle.std.specs.Prelude.{ℕ, ◌+◌, ◌^◌, ◌<◌, ◌≤◌, List, sum_by}
 use Rattle.std.specs.List.{AllByRecursion}
-use Rattle.event_words.specs.declared.shape.Shape.{Shape}
 use Rattle.event_words.specs.declared.register.Field.{Field}
-use Rattle.event_words.specs.Registers.{Registers, ruled_field, reset_field, index_count}
+use Rattle.event_words.specs.Registers.{ruled_field, reset_field}
 use Rattle.event_words.specs.Guards.{field_bits, read_only_bits}
-use Rattle.event_words.specs.Valid.{IsValidShape}
 use Rattle.register_fields.specs.declared.fields.Term.{Term}
 use Rattle.register_fields.specs.declared.fields.Term.TheVariants.{Ruled, Reset, Whole, ReadOnly}
 

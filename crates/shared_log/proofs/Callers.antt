@@ -6,16 +6,16 @@ use Rattle.event_words.specs.declared.reply.Reply.{Reply}
 use Rattle.atomic_table.specs.Seated.{TableId}
 use Rattle.shared_log.specs.declared.seat_view.SeatView.{SeatView}
 use Rattle.shared_log.specs.Words.{words_by}
-use Rattle.shared_log.specs.SeatViews.{IsSeatView, with_word, with_caller, new_caller}
+use Rattle.shared_log.specs.SeatViews.{IsSeatView, with_word, new_caller}
 use Rattle.shared_log.specs.Callers.{CallerView, HasCallerFields, IsCaller, AfterOthers, AfterCall, caller_view}
 use Rattle.shared_log.proofs.Counting.{at_most, below_all}
 use Rattle.shared_log.proofs.WordLists.{words-snoc-other}
 
-pub small_of : (words : ℕ) (v : SeatView) (place : ℕ) → IsSeatView v → place ≡ length v.log → words ≡ v.callers * v.budget → place ≤ words
-small_of words v place h p w = let m = at_most v.callers v.budget v.log h.above h.within in omega arith
+pub place_within : (words : ℕ) (v : SeatView) (place : ℕ) → IsSeatView v → place ≡ length v.log → words ≡ v.callers * v.budget → place ≤ words
+place_within words v place h p w = let m = at_most v.callers v.budget v.log h.above h.within in omega arith
 
-pub room_with : (words : ℕ) (v : SeatView) (number place left : ℕ) → IsSeatView v → v.number ≡ number → place ≡ length v.log → words ≡ v.callers * v.budget → left + length (words_by number v.log) ≡ v.budget → 0 < left → place < words
-room_with words v number place left h n p w l some_left =
+pub place_below : (words : ℕ) (v : SeatView) (number place left : ℕ) → IsSeatView v → v.number ≡ number → place ≡ length v.log → words ≡ v.callers * v.budget → left + length (words_by number v.log) ≡ v.budget → 0 < left → place < words
+place_below words v number place left h n p w l some_left =
     let lt = h.number in
     let m = below_all v.callers v.budget number v.log h.above h.within (omega arith) (omega arith) in omega arith
 
@@ -24,16 +24,16 @@ pub no_others : {M S : Type 0} (c : CallerView M S) → AfterOthers c c
 no_others c = let same : c.log ≡ c.log ++ [] = sym (append-nil c.log) in record { between = []; others = refl; log = same; same = refl }
 
 module _ {M S : Type 0} (state : M → S) (next_place places : M → ℕ) (after : S → ℕ → ℕ → S) where
-  pub own_few : {words : ℕ} {v : SeatView} {number place left budget made : ℕ} {m : M} {f : S} → HasCallerFields state next_place places after words v number place left budget made m f → 0 < left → length (words_by v.number v.log) < v.budget
-  own_few {v} {number} i some_left =
+  pub own_words_below_budget : {words : ℕ} {v : SeatView} {number place left budget made : ℕ} {m : M} {f : S} → HasCallerFields state next_place places after words v number place left budget made m f → 0 < left → length (words_by v.number v.log) < v.budget
+  own_words_below_budget {v} {number} i some_left =
       let e : length (words_by v.number v.log) ≡ length (words_by number v.log) = ap (λ (k : ℕ). length (words_by k v.log)) i.number_is in
       let l = i.left_is in omega arith
 
-  pub goes_on : {words : ℕ} {v : SeatView} {number place left budget made : ℕ} {m : M} {f : S} → HasCallerFields state next_place places after words v number place left budget made m f
+  pub one_word_more : {words : ℕ} {v : SeatView} {number place left budget made : ℕ} {m : M} {f : S} → HasCallerFields state next_place places after words v number place left budget made m f
       → (x : ℕ) (v' : SeatView) (left' : ℕ) (m' : M) (words' : ℕ) → v' ≡ with_word v x → IsSeatView v' → words' ≡ words → state m' ≡ after (state m) place x → next_place m' ≡ next_place m + 1 → places m' ≡ places m
       → left' + length (words_by number (v.log ++ x ∷ [])) ≡ v.budget
       → HasCallerFields state next_place places after words' v' number (place + 1) left' budget made m' f
-  goes_on {words} {v} {number} {place} {left} {budget} {made} {m} {f} i x v' left' m' words' e knows same st nx pl owned =
+  one_word_more {words} {v} {number} {place} {left} {budget} {made} {m} {f} i x v' left' m' words' e knows same st nx pl owned =
       let knows' = subst (IsSeatView) e knows in
       let place' : place + 1 ≡ length (v.log ++ x ∷ []) = let p = i.place_is in omega (arith, length-append v.log (x ∷ [])) in
       let P : SeatView → Type 0 = λ u. HasCallerFields state next_place places after words' u number (place + 1) left' budget made m' f in
@@ -46,8 +46,8 @@ module _ {M S : Type 0} (state : M → S) (next_place places : M → ℕ) (after
         place_is = place';
         words_are = same ∙ i.words_are;
         valid = knows';
-        small = small_of words' (with_word v x) (place + 1) knows' place' (same ∙ i.words_are);
-        room = room_with words' (with_word v x) number (place + 1) left' knows' i.number_is place' (same ∙ i.words_are) owned;
+        small = place_within words' (with_word v x) (place + 1) knows' place' (same ∙ i.words_are);
+        room = place_below words' (with_word v x) number (place + 1) left' knows' i.number_is place' (same ∙ i.words_are) owned;
         left_is = owned;
         budget_is = i.budget_is;
         made_is = i.made_is;
@@ -57,9 +57,9 @@ module _ {M S : Type 0} (state : M → S) (next_place places : M → ℕ) (after
       }
 
   -- another caller's word more
-  pub sees_on : {c : CallerView M S} (table : TableId) (v : SeatView) (left : ℕ) (m : M) (f : S) → AfterOthers c (caller_view table v left m f) → (x : ℕ) (v' : SeatView) (table' : TableId) (m' : M) → v' ≡ with_word v x → bearer x ≢ v.number → table' ≡ table
+  pub word_of_others_more : {c : CallerView M S} (table : TableId) (v : SeatView) (left : ℕ) (m : M) (f : S) → AfterOthers c (caller_view table v left m f) → (x : ℕ) (v' : SeatView) (table' : TableId) (m' : M) → v' ≡ with_word v x → bearer x ≢ v.number → table' ≡ table
       → AfterOthers c (caller_view table' v' left m' f)
-  sees_on {c} table v left m f h x v' table' m' e not same =
+  word_of_others_more {c} table v left m f h x v' table' m' e not same =
       let log : v'.log ≡ v.log ++ x ∷ [] = ap (λ (u : SeatView). u.log) e in record {
         between = h.between ++ x ∷ [];
         others = words-snoc-other c.number h.between x (λ q. not (q ∙ sym (ap (λ (d : CallerView M S). d.number) h.same))) ∙ h.others;
@@ -70,11 +70,11 @@ module _ {M S : Type 0} (state : M → S) (next_place places : M → ℕ) (after
             ∙ ap (λ (l : List ℕ). record c { log = l; machine = m' }) (sym log);
       }
 
-  pub was_called : (reply : S → ℕ → ℕ → Reply) {words : ℕ} {c : CallerView M S} (table : TableId) {v : SeatView} {number place left budget made : ℕ} {m : M} {f : S} → HasCallerFields state next_place places after words v number place left budget made m f
+  pub after_call : (reply : S → ℕ → ℕ → Reply) {words : ℕ} {c : CallerView M S} (table : TableId) {v : SeatView} {number place left budget made : ℕ} {m : M} {f : S} → HasCallerFields state next_place places after words v number place left budget made m f
       → AfterOthers c (caller_view table v left m f)
       → (w : ℕ) (v' : SeatView) (left' : ℕ) (m' : M) (table' : TableId) (answer : Reply) → v' ≡ with_word v w → table' ≡ table → left' + 1 ≡ left → answer ≡ reply (state m) place w
       → AfterCall after reply c w answer (caller_view table' v' left' m' f)
-  was_called reply {c} table {v} {place} {left} {m} {f} i h w v' left' m' table' answer e same less is =
+  after_call reply {c} table {v} {place} {left} {m} {f} i h w v' left' m' table' answer e same less is =
       let log : v'.log ≡ v.log ++ w ∷ [] = ap (λ (u : SeatView). u.log) e in
       let logs : v.log ≡ c.log ++ h.between = h.log in record {
         between = h.between;
@@ -108,32 +108,11 @@ module _ {M S : Type 0} (state : M → S) (next_place places : M → ℕ) (after
     enough = i.fits;
   }
 
-  -- the first caller after a split
-  pub made_one : {words : ℕ} {v : SeatView} {number place left budget made : ℕ} {m : M} {f : S} → HasCallerFields state next_place places after words v number place left budget made m f → v.number ≡ 0 → HasCallerFields state next_place places after words (with_caller v) number place left budget (made + 1) m f
-  made_one i z = let h = i.valid in record {
-    live = i.live;
-    none_joined = i.none_joined;
-    number_is = i.number_is;
-    place_is = i.place_is;
-    words_are = i.words_are;
-    few = i.few;
-    lot = i.lot;
-    left_is = i.left_is;
-    state_is = i.state_is;
-    next_is = i.next_is;
-    budget_is = i.budget_is;
-    fits = i.fits;
-    small = i.small;
-    room = i.room;
-    made_is = ap (λ (k : ℕ). k + 1) i.made_is;
-    valid = record { number = h.number; events = h.events; within = h.within; above = h.above; later = λ z c le. h.later z c (omega arith) };
-  }
-
   -- the new caller, whose machine was brought up
-  pub comes : {words : ℕ} {v : SeatView} {number place left budget made : ℕ} {m : M} {f : S} → HasCallerFields state next_place places after words v number place left budget made m f → v.number ≡ 0 → v.made < v.callers
+  pub new_caller_fields : {words : ℕ} {v : SeatView} {number place left budget made : ℕ} {m : M} {f : S} → HasCallerFields state next_place places after words v number place left budget made m f → v.number ≡ 0 → v.made < v.callers
       → (m' : M) → state m' ≡ run after f v.log → next_place m' ≡ place → v.callers * v.budget ≤ places m'
       → HasCallerFields state next_place places after words (new_caller v) made place budget budget 0 m' f
-  comes {words} {v} {number} {place} {left} {budget} {made} i z few m' st nx pl = let h = i.valid in
+  new_caller_fields {words} {v} {number} {place} {left} {budget} {made} i z few m' st nx pl = let h = i.valid in
       let none : words_by made v.log ≡ [] = h.later z made (let e = i.made_is in omega arith) in
       let owned : budget + length (words_by made v.log) ≡ v.budget = let e = i.budget_is in let n = ap length none in omega arith in
       let knows' : IsSeatView (new_caller v) = record { number = few; events = h.events; within = h.within; above = h.above; later = λ y c le. h.later z c (omega arith) } in record {
@@ -148,7 +127,7 @@ module _ {M S : Type 0} (state : M → S) (next_place places : M → ℕ) (after
         made_is = refl;
         left_is = owned;
         small = i.small;
-        room = room_with words (new_caller v) made place budget knows' (sym i.made_is) i.place_is i.words_are owned;
+        room = place_below words (new_caller v) made place budget knows' (sym i.made_is) i.place_is i.words_are owned;
         state_is = st;
         next_is = nx ∙ i.place_is;
         fits = pl;

@@ -1,16 +1,16 @@
 -- For the crates above: a caller's own events, with their places and replies, through calls and in a
 -- closed history.
-use Rattle.std.proofs.Common.{◌≡◌, ◌≢◌, ℕ, ◌+◌, ◌<◌, List, [], ◌∷◌, ◌++◌, length, sym, refl, ap, ◌∙◌, arith}
+use Rattle.std.proofs.Common.{◌≡◌, ℕ, List, [], ◌∷◌, ◌++◌, length, sym, refl, ap, ◌∙◌, arith}
 use Rattle.event_words.specs.declared.event.Event.{Event}
 use Rattle.event_words.specs.declared.reply.Reply.{Reply}
 use Rattle.event_words.specs.declared.record.LoggedEvent.{LoggedEvent}
 use Rattle.event_words.specs.Events.{caller_of}
 use Rattle.event_words.specs.Records.{events_by}
-use Rattle.event_words.specs.Runs.{bearer, run, logged}
+use Rattle.event_words.specs.Runs.{run, logged}
 use Rattle.event_words.specs.Valid.{IsValidEvent}
 use Rattle.event_words.specs.Word.{word_of}
 use Rattle.event_words.proofs.Runs.{events-of-others, events-of-beginning, events-after-call}
-use Rattle.shared_log.specs.Words.{words_by, BeginsWithLog}
+use Rattle.shared_log.specs.Words.{words_by}
 use Rattle.shared_log.specs.Callers.{CallerView, AfterCall, KeepsBudget}
 use Rattle.shared_log.specs.Histories.{HoldsCaller}
 

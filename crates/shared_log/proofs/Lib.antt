@@ -1,6 +1,6 @@
 pub mod Counting
 pub mod WordLists
-pub mod Keeps
+pub mod RuleKept
 pub mod Steps
 pub mod Callers
 pub mod Gathers

@@ -14,7 +14,7 @@ use Rattle.shared_log.specs.SeatViews.{with_word, with_caller, new_caller, with_
 use Rattle.shared_log.specs.Rule.{IsCallerSeat, IsSharedLog}
 use Rattle.shared_log.specs.Steps.{AfterExchange}
 use Rattle.shared_log.proofs.WordLists.{at_end, at-below, get-behind, get-front, set-same, AllEventWords-right}
-use Rattle.shared_log.proofs.Keeps.{knows_of, won, lost, not_own, splits, joins}
+use Rattle.shared_log.proofs.RuleKept.{view_kept, won, lost, not_own, split_kept, join_kept}
 
 abbrev St : Type 0
 St = State (Unit {0}) SeatView
@@ -54,7 +54,7 @@ module _ (C B : ℕ) where
           (
             refl,
             record {
-              valid = knows_of C B (set s.words place word) (set s.views id (with_word me.0 word)) kept id (with_word me.0 word) (there s.views id me.0 (with_word me.0 word) at) live;
+              valid = view_kept C B (set s.words place word) (set s.views id (with_word me.0 word)) kept id (with_word me.0 word) (there s.views id me.0 (with_word me.0 word) at) live;
               won = λ _. refl;
               lost = λ not. absurd (not found);
             },
@@ -74,18 +74,18 @@ module _ (C B : ℕ) where
           (
             refl,
             record {
-              valid = knows_of C B s.words (set s.views id (with_word me.0 x)) kept id (with_word me.0 x) (there s.views id me.0 (with_word me.0 x) at) live;
+              valid = view_kept C B s.words (set s.views id (with_word me.0 x)) kept id (with_word me.0 x) (there s.views id me.0 (with_word me.0 x) at) live;
               won = λ e. absurd (full e);
               lost = λ _. (ap (with_word me.0) (sym found), subst (λ (k : ℕ). bearer k ≢ me.0.number) (sym found) (not_own C B s.words s.views r id me.0 q x xs more));
             },
           ),
         )
 
-    pub exchanges : Allows Holds slots id me place (λ n. either (eqb n 0) word n) Then
-    exchanges s r homes at small = let q = r.seated id me.0 at live in exchange_by s r at q q.has.rest refl
+    pub exchange_allowed : Allows Holds slots id me place (λ n. either (eqb n 0) word n) Then
+    exchange_allowed s r homes at small = let q = r.seated id me.0 at live in exchange_by s r at q q.has.rest refl
 
-  pub recalls : (slots id : ℕ) (me : Me (Unit {0}) SeatView) (i : ℕ) → me.0.live ≡ true → i < length me.0.log → Allows Holds slots id me i (λ n. n) (λ n me'. (me' ≡ me) × (n ≡ get_or me.0.log i 0))
-  recalls slots id me i live below s r homes at small =
+  pub load_allowed : (slots id : ℕ) (me : Me (Unit {0}) SeatView) (i : ℕ) → me.0.live ≡ true → i < length me.0.log → Allows Holds slots id me i (λ n. n) (λ n me'. (me' ≡ me) × (n ≡ get_or me.0.log i 0))
+  load_allowed slots id me i live below s r homes at small =
       let q = r.seated id me.0 at live in (
         me.0,
         keeps,
@@ -94,17 +94,17 @@ module _ (C B : ℕ) where
         (refl, ap (λ (l : List ℕ). get_or l i 0) (r.words_are ∙ ap (λ (l : List ℕ). l ++ replicate r.free 0) q.has.begins ∙ append_assoc me.0.log q.has.rest (replicate r.free 0)) ∙ get-front me.0.log (q.has.rest ++ replicate r.free 0) i below),
       )
 
-  pub cuts : (id : ℕ) (v : SeatView) → v.live ≡ true → v.number ≡ 0 → v.made < C → Splits Holds id v (with_caller v) (new_caller v)
-  cuts id v live is_first few s r at = splits C B s.words s.views r id v at live is_first few
+  pub split_allowed : (id : ℕ) (v : SeatView) → v.live ≡ true → v.number ≡ 0 → v.made < C → Splits Holds id v (with_caller v) (new_caller v)
+  split_allowed id v live is_first few s r at = split_kept C B s.words s.views r id v at live is_first few
 
-  pub merges : (id : ℕ) (v : SeatView) (other : ℕ) (u : SeatView) → v.live ≡ true → v.number ≡ 0 → u.live ≡ true → u.number ≡ length v.joined + 1 → Joins Holds id v other u (with_joined_log v u) spent_view
-  merges id v other u live is_first live' next s r at not at' = joins C B s.words s.views r id v at live is_first other u not at' live' next
+  pub join_allowed : (id : ℕ) (v : SeatView) (other : ℕ) (u : SeatView) → v.live ≡ true → v.number ≡ 0 → u.live ≡ true → u.number ≡ length v.joined + 1 → Joins Holds id v other u (with_joined_log v u) spent_view
+  join_allowed id v other u live is_first live' next s r at not at' = join_kept C B s.words s.views r id v at live is_first other u not at' live' next
 
   only-first : (c : ℕ) → 1 ≤ c → cond (eqb c 0) (some zero) none ≡ none
   only-first c h = ap (λ (t : Bool). cond t (some zero) none) (ne_eqb c 0 (λ e. omega arith))
 
-  pub starts : 1 ≤ C → IsSharedLog C B (replicate (C * B) 0) (opening_view C B ∷ [])
-  starts one = record {
+  pub opening_kept : 1 ≤ C → IsSharedLog C B (replicate (C * B) 0) (opening_view C B ∷ [])
+  opening_kept one = record {
     log = [];
     free = C * B;
     seat = λ c. cond (eqb c 0) (some 0) none;
@@ -118,7 +118,7 @@ module _ (C B : ℕ) where
     unmade = λ c h. (refl, only-first c h);
     done = λ c l e. absurd (some-ne-none l (sym e));
     seated = λ j u at live. ⊎_elim (λ e. absurd (some-ne-none u (sym e)))
-        (λ e. let P : ℕ × SeatView → Type 0 = λ z. IsCallerSeat C B [] (λ c. cond (eqb c 0) (some 0) none) 1 [] z.0 z.1 in subst P (λ i. (sym e.0 i, e.1 i)) record {
+        (λ e. let P : ℕ × SeatView → Type 0 = λ z. IsCallerSeat C B [] (λ c. cond (eqb c 0) (some 0) none) 1 [] z.0 z.1 in subst P {x = (0, opening_view C B)} {y = (j, u)} (λ i. (sym e.0 i, e.1 i)) record {
           callers_is = refl;
           budget_is = refl;
           seat_is = refl;

@@ -1,5 +1,5 @@
 -- What a history has of a caller.
-use Rattle.std.specs.Prelude.{◌≡◌, ℕ, ◌+◌, List, [], ◌++◌, length}
+use Rattle.std.specs.Prelude.{◌≡◌, ℕ, ◌+◌, List, length}
 use Rattle.shared_log.specs.Words.{words_by, BeginsWithLog}
 use Rattle.shared_log.specs.Callers.{CallerView}
 

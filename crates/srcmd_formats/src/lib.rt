@@ -23,6 +23,14 @@ fn is_in_table(regs: &Regs, rrid: u32, domain: u32) -> bool
     }
 }
 
+/// One domain of a mask of domains, bit m for domain m, as a test.
+pub fn has_domain(domains: u64, domain: u8) -> bool
+    requires { domain < 64 }
+    ensures { result ≡ has_bit domains domain }
+{
+    (domains >> domain) % 2 == 1
+}
+
 /// The domains of a requester: bit m for domain m.
 pub fn domains_of(regs: &Regs, rrid: u8) -> u64
     ensures { (m : ℕ) → has_bit result m ≡ is_associated regs.now rrid m }

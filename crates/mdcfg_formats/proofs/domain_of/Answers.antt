@@ -2,7 +2,7 @@ use Rattle.std.proofs.Common.{◌≡◌, true, false, arith, ap}
 use Rattle.event_words.specs.declared.shape.Shape.{Shape}
 use Rattle.std.proofs.lemmas.Bool.Decides.{nat_tests}
 use Rattle.event_words.specs.Domains.{is_bounded_by, owner_of}
-use Rattle.mdcfg_formats.proofs.Owners.{find_here, find_later}
+use Rattle.mdcfg_formats.proofs.Searches.{find_here, find_later}
 use Rattle.mdcfg_formats.proofs.domain_of.Goals as goal
 
 pub returns-then-entry-bound_of-clause-value : goal.returns-then-entry-bound_of-clause-value

@@ -1,4 +1,4 @@
-use Rattle.std.proofs.Common.{arith, ◌≡◌, ◌<◌, ◌*◌, ◌^◌, ◌≤◌, ◌%◌}
+use Rattle.std.proofs.Common.{arith}
 use Rattle.register_fields.proofs.Shifts.{moved_below, moved_whole, moved_le}
 use Rattle.register_fields.proofs.fields.term_of.Goals as goal
 

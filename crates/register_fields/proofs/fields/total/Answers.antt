@@ -1,4 +1,4 @@
-use Rattle.std.proofs.Common.{◌≡◌, ◌≤◌, arith}
+use Rattle.std.proofs.Common.{arith}
 use Rattle.register_fields.proofs.Shapes.{IsTable_one}
 use Rattle.register_fields.proofs.fields.total.Goals as goal
 

@@ -1,4 +1,4 @@
-use Rattle.std.proofs.Common.{◌≡◌, ◌≤◌, arith, refl}
+use Rattle.std.proofs.Common.{arith}
 use Rattle.register_fields.proofs.Shapes.{IsTable_hwcfg0}
 use Rattle.register_fields.proofs.fields.total_hwcfg0.Goals as goal
 

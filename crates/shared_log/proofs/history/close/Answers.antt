@@ -9,7 +9,7 @@ use Rattle.std.specs.List.{AllByRecursion}
 use Rattle.shared_log.specs.Words.{BeginsWithLog}
 use Rattle.shared_log.specs.SeatViews.{with_joined_log, with_joined}
 use Rattle.shared_log.specs.Callers.{KeepsBudget}
-use Rattle.shared_log.proofs.Steps.{merges}
+use Rattle.shared_log.proofs.Steps.{join_allowed}
 use Rattle.shared_log.proofs.Callers.{caller_of_fields}
 use Rattle.shared_log.proofs.Closing.{at-item, mapped-length, finishes, item-behind, nothing_left, all-at, all-snoc, holds_caller}
 use Rattle.shared_log.proofs.history.close.Goals as goal
@@ -49,7 +49,7 @@ join_seat-requires g c =
       ap (λ z. z.table) (c.caller.view_is ∙ sym here) ∙ asked.0.0 ∙ shared,
       c.caller.invariant.0,
       t.6,
-      merges k.key.callers k.key.budget c.loop-caller.seat.id c.loop-caller.seat.me.0 c.caller.inside.seat.id c.caller.inside.seat.me.0
+      join_allowed k.key.callers k.key.budget c.loop-caller.seat.id c.loop-caller.seat.me.0 c.caller.inside.seat.id c.caller.inside.seat.me.0
           (ap (λ m. m.0.live) v.me ∙ i.live) (ap (λ m. m.0.number) v.me ∙ ap (λ z. z.number) c.first.view_is ∙ c.requires.number) u.live (omega arith),
     )
 

@@ -1,8 +1,8 @@
-use Rattle.std.proofs.Common.{◌≡◌, ℕ, ◌+◌, ◌*◌, ◌<◌, ◌≤◌, length, List, take, get_or, sym, ap, ◌∙◌, arith}
+use Rattle.std.proofs.Common.{◌≡◌, ℕ, ◌+◌, ◌*◌, ◌<◌, length, List, take, get_or, sym, ap, ◌∙◌, arith}
 use Rattle.event_words.specs.Runs.{run}
 use Rattle.event_words.proofs.Runs.{run-take}
 use Rattle.std.proofs.Math.Seq.{take-length}
-use Rattle.shared_log.proofs.Steps.{recalls}
+use Rattle.shared_log.proofs.Steps.{load_allowed}
 use Rattle.shared_log.proofs.shared.bring_up.Goals as goal
 
 pub load-word-requires : goal.load-word-requires
@@ -16,7 +16,7 @@ load-word-requires g c =
     let e = c.requires.end in let w = t.2 in (
       same,
       omega arith,
-      recalls k.key.callers k.key.budget k.table_id.slots c.loop-place.seat.id c.loop-place.seat.me c.loop-place.place (ap (λ m. m.0.live) v.seat.1 ∙ c.requires.seat.1) (let h = ap (λ m. length m.0.log) v.seat.1 in omega arith),
+      load_allowed k.key.callers k.key.budget k.table_id.slots c.loop-place.seat.id c.loop-place.seat.me c.loop-place.place (ap (λ m. m.0.live) v.seat.1 ∙ c.requires.seat.1) (let h = ap (λ m. length m.0.log) v.seat.1 in omega arith),
     )
 
 pub loop-place-preserved : goal.loop-place-preserved

@@ -1,11 +1,10 @@
-use Rattle.std.proofs.Common.{◌≡◌, ℕ, ◌+◌, ◌*◌, ◌<◌, ◌≤◌, [], sym, ap, ◌∙◌, subst, arith}
+use Rattle.std.proofs.Common.{◌≡◌, ◌*◌, ◌<◌, ◌≤◌, [], sym, ap, ◌∙◌, subst, arith}
 use Rattle.event_words.specs.Runs.{run}
 use Rattle.shared_log.specs.Words.{words_by}
 use Rattle.shared_log.specs.SeatViews.{new_caller}
-use Rattle.shared_log.specs.Callers.{HasCallerFields}
-use Rattle.shared_log.proofs.Callers.{comes, caller_of_fields}
+use Rattle.shared_log.proofs.Callers.{new_caller_fields, caller_of_fields}
 use Rattle.shared_log.proofs.Counting.{only_first}
-use Rattle.shared_log.proofs.Steps.{cuts}
+use Rattle.shared_log.proofs.Steps.{split_allowed}
 use Rattle.shared_log.proofs.shared.split.Goals as goal
 
 pub bring_up-machine-requires : goal.bring_up-machine-requires
@@ -32,7 +31,7 @@ split_seat-seat-requires g c =
     let made : c.bring_up-machine.new.seat.me.0.made < k.key.callers = let m = c.requires.made in let a = ap (λ v. v.made) view in let e = ap (λ n. n.made) c.first.view_is in let f = ap (λ l. l.callers) c.shared.view_is in let h = t.0 in omega arith in (
       same,
       t.6,
-      cuts k.key.callers k.key.budget c.bring_up-machine.new.seat.id c.bring_up-machine.new.seat.me.0 (ap (λ v. v.live) view ∙ i.live) zeroth made,
+      split_allowed k.key.callers k.key.budget c.bring_up-machine.new.seat.id c.bring_up-machine.new.seat.me.0 (ap (λ v. v.live) view ∙ i.live) zeroth made,
     )
 
 pub invariant_of-result : goal.invariant_of-result
@@ -48,7 +47,7 @@ invariant_of-result g c =
     let few : v.made < v.callers = let a = c.requires.made in let b = c.requires.belongs.1 in let e = ap (λ n. n.made) c.first.view_is in let f = ap (λ n. n.callers) c.first.view_is in omega arith in
     let zeroth : v.number ≡ 0 = ap (λ n. n.number) c.first.view_is ∙ c.requires.number in
     let room : v.callers * v.budget ≤ m.places c.bring_up-machine.result = let a = up.places in let f = i.fits in let p = c.requires.machine.1 in let q = ap (λ n. m.places n.machine) c.first.view_is in omega arith in
-    let new = comes m.state m.next_place m.places m.after i zeroth few c.bring_up-machine.result (up.state ∙ ap (λ s. run m.after s v.log) (sym start)) up.next room in (
+    let new = new_caller_fields m.state m.next_place m.places m.after i zeroth few c.bring_up-machine.result (up.state ∙ ap (λ s. run m.after s v.log) (sym start)) up.next room in (
       ap (λ x. x.1) me,
       rw (ap (λ x. x.0) me, ap (λ t. t.words) table, c.of-origin.ensures, ← start) new,
     )

@@ -1,4 +1,3 @@
-use Rattle.std.proofs.Common.{◌≡◌}
 use Rattle.event_words.proofs.WellFormedLemmas.{IsWellFormed-at_reset}
 use Rattle.register_fields.proofs.regs.Regs.new.Goals as goal
 

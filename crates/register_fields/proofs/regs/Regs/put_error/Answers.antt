@@ -2,7 +2,6 @@ use Rattle.std.proofs.Common.{◌≡◌, ℕ, ◌<◌, ◌-◌, ◌^◌, bit_and
 use Rattle.std.proofs.Math.Nat.{mod-eq_of_lt}
 use Rattle.std.proofs.lemmas.Nat.{and_mask}
 use Rattle.event_words.specs.Registers.{Registers, set_word}
-use Rattle.event_words.specs.WellFormed.{IsWellFormed}
 use Rattle.event_words.proofs.WellFormedLemmas.{IsWellFormed-set_word}
 use Rattle.register_fields.proofs.regs.Regs.put_error.Goals as goal
 

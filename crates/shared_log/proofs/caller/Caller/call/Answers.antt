@@ -10,8 +10,8 @@ use Rattle.shared_log.specs.Rule.{IsSharedLog}
 use Rattle.shared_log.specs.Callers.{AfterOthers}
 use Rattle.shared_log.specs.Steps.{AfterExchange}
 use Rattle.shared_log.proofs.WordLists.{words-snoc-other, words-snoc-own}
-use Rattle.shared_log.proofs.Steps.{exchanges}
-use Rattle.shared_log.proofs.Callers.{no_others, own_few, goes_on, sees_on, was_called, caller_of_fields}
+use Rattle.shared_log.proofs.Steps.{exchange_allowed}
+use Rattle.shared_log.proofs.Callers.{no_others, own_words_below_budget, one_word_more, word_of_others_more, after_call, caller_of_fields}
 use Rattle.shared_log.proofs.caller.Caller.call.Goals as goal
 
 pub word-init : goal.word-init
@@ -37,7 +37,7 @@ compare_exchange-found-requires g c =
       subst (λ (n : ℕ). c.word.self-inside.place < n) (ap (λ t. t.words) same) room,
       subst (λ (n : ℕ). Allows (λ s. IsSharedLog k.key.callers k.key.budget s.words s.views) k.table_id.slots seat.id seat.me n (λ x. either (eqb x 0) c.pack-word.result x) (λ x me'. (me'.1 ≡ seat.me.1) × AfterExchange c.pack-word.result seat.me.0 x me'.0))
           (sym i.place_is)
-          (exchanges k.key.callers k.key.budget k.table_id.slots seat.id seat.me c.pack-word.result i.live mine event (own_few m.state m.next_place m.places m.after i c.word.invariant.some_left)),
+          (exchange_allowed k.key.callers k.key.budget k.table_id.slots seat.id seat.me c.pack-word.result i.live mine event (own_words_below_budget m.state m.next_place m.places m.after i c.word.invariant.some_left)),
     )
 
 pub word-preserved : goal.word-preserved
@@ -50,10 +50,10 @@ word-preserved g c =
     = words-snoc-other c.word.self-inside.number c.word.self-inside.seat.me.0.log c.compare_exchange-found.result (λ e. lost.1 (e ∙ sym i.number_is)) in
     let left = i.left_is in record {
       empty = ex.2.0 ∙ c.word.invariant.empty;
-      is = goes_on m.state m.next_place m.places m.after i c.compare_exchange-found.result c.compare_exchange-found.new.seat.me.0 c.word.self-inside.left c.apply-in-word.new.self c.compare_exchange-found.new.seat.table_id.words
+      is = one_word_more m.state m.next_place m.places m.after i c.compare_exchange-found.result c.compare_exchange-found.new.seat.me.0 c.word.self-inside.left c.apply-in-word.new.self c.compare_exchange-found.new.seat.table_id.words
           lost.0 ex.2.1.valid (ap (λ t. t.words) ex.0) c.apply-in-word.ensures.state c.apply-in-word.ensures.next c.apply-in-word.ensures.places (omega (arith, ap length other));
       some_left = c.word.invariant.some_left;
-      so_far = sees_on m.state m.next_place m.places m.after c.word.self-inside.seat.table_id c.word.self-inside.seat.me.0 c.word.self-inside.left c.word.self-inside.machine (m.state c.word.self-inside.first.value) c.word.invariant.so_far c.compare_exchange-found.result c.compare_exchange-found.new.seat.me.0 c.compare_exchange-found.new.seat.table_id c.apply-in-word.new.self lost.0 lost.1 ex.0;
+      so_far = word_of_others_more m.state m.next_place m.places m.after c.word.self-inside.seat.table_id c.word.self-inside.seat.me.0 c.word.self-inside.left c.word.self-inside.machine (m.state c.word.self-inside.first.value) c.word.invariant.so_far c.compare_exchange-found.result c.compare_exchange-found.new.seat.me.0 c.compare_exchange-found.new.seat.table_id c.apply-in-word.new.self lost.0 lost.1 ex.0;
     }
 
 -- the caller's fields after a won exchange
@@ -69,7 +69,7 @@ won_fields g c =
     let left = i.left_is in
     let some_left = c.word.invariant.some_left in (
       ex.2.0 ∙ c.word.invariant.empty,
-      goes_on m.state m.next_place m.places m.after i c.pack-word.result c.compare_exchange-found.new.seat.me.0 (c.word.self-inside.left - 1) c.apply.new.self c.compare_exchange-found.new.seat.table_id.words
+      one_word_more m.state m.next_place m.places m.after i c.pack-word.result c.compare_exchange-found.new.seat.me.0 (c.word.self-inside.left - 1) c.apply.new.self c.compare_exchange-found.new.seat.table_id.words
           won ex.2.1.valid (ap (λ t. t.words) ex.0) c.apply.ensures.state c.apply.ensures.next c.apply.ensures.places
           (omega (arith, ap length own, length-append (words_by c.word.self-inside.number c.word.self-inside.seat.me.0.log) (c.pack-word.result ∷ []))),
     )
@@ -85,7 +85,7 @@ returns-then-found-eq0-clause-call g c =
     let ex = c.compare_exchange-found.ensures in
     let won = ex.2.1.won c.if-found-eq0.true in
     let some_left = c.word.invariant.some_left in
-    was_called m.state m.next_place m.places m.after m.reply c.word.self-inside.seat.table_id i h (word_of c.args.event) c.compare_exchange-found.new.seat.me.0 (c.word.self-inside.left - 1) c.apply.new.self c.compare_exchange-found.new.seat.table_id c.apply.result
+    after_call m.state m.next_place m.places m.after m.reply c.word.self-inside.seat.table_id i h (word_of c.args.event) c.compare_exchange-found.new.seat.me.0 (c.word.self-inside.left - 1) c.apply.new.self c.compare_exchange-found.new.seat.table_id c.apply.result
     (won ∙ ap (with_word c.word.self-inside.seat.me.0) c.pack-word.ensures.word) ex.0 (omega arith) (c.apply.ensures.reply ∙ ap (m.reply (m.state c.word.self-inside.machine) c.word.self-inside.place) c.pack-word.ensures.word)
 
 pub returns-then-found-eq0-clause-caller : goal.returns-then-found-eq0-clause-caller

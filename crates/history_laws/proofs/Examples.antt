@@ -1,0 +1,142 @@
+-- Small histories in which the premises of the laws hold.
+use Rattle.std.proofs.Common.{◌≡◌, ℕ, List, [], ◌∷◌, ◌++◌, Some, None, refl, arith, inr, true, false, ⊎_elim, subst, sym}
+use Rattle.std.specs.Prelude.{option_map}
+use Rattle.std.proofs.lemmas.Bool.{cases_eq}
+use lib.Count
+use Rattle.event_words.specs.declared.shape.Shape.{Shape}
+use Rattle.event_words.specs.declared.access.Access.{Access}
+use Rattle.event_words.specs.declared.access.Kind.TheVariants.{Read}
+use Rattle.event_words.specs.declared.event.Event.{Event}
+use Rattle.event_words.specs.declared.event.Event.TheVariants.{RegWrite, RegRead, Submit, Judge}
+use Rattle.event_words.specs.declared.reply.Reply.TheVariants.{Value, Busy, Held, NoSuch}
+use Rattle.event_words.specs.declared.reply.Verdict.TheVariants.{Allowed, Denied}
+use Rattle.unit_core.specs.Histories.{History, state_at, reply_at}
+use Rattle.unit_core.specs.Guarded.{is_guarded, bit_of}
+use Rattle.unit_core.specs.Windows.{IsInDrainedWindow, IsVerdictOn, is_flagged}
+use Rattle.history_laws.specs.Tickets.{IsTaken, IsOwnVerdict, StandsAt}
+use Rattle.history_laws.specs.Busy.{FindsFullQueue}
+
+abbrev small : Shape
+small = record { rrids = 4; domains = 3; entries = 8; mdcfg = 0; k = 0; srcmd = 0; sps = false; queue = 1; transl = None }
+
+abbrev read_by : ℕ → ℕ → Access
+read_by rrid addr = record { rrid = rrid; kind = Read; addr = addr; len = 4 }
+
+-- Domain 0 has all entries, requester 3 is in it, and checking is on.
+abbrev opening : List Event
+opening = RegWrite 0 0 0x200 8 ∷ RegWrite 0 0 0x418 2 ∷ RegWrite 0 0 2 1 ∷ []
+
+-- Entry 0 lets requester 3 read 4096 bytes from 0x80000000.
+abbrev window : List Event
+window = RegWrite 0 0 0x800 0x200001ff ∷ RegWrite 0 0 0x802 0x19 ∷ []
+
+abbrev of_events : List Event → History
+of_events es = record { shapes = small ∷ []; events = es }
+
+-- ---- a stall that was not read as drained promises nothing
+
+abbrev undrained : History
+undrained = of_events (opening ++ window ++ Submit 0 0 (read_by 3 0x80000000) ∷ RegWrite 0 0 12 1 ∷ RegRead 0 0 12 ∷ RegWrite 0 0 0x802 0x18 ∷ Judge 0 0 5 ∷ RegRead 0 0 12 ∷ [])
+
+-- The read of MDSTALL at place 7 has bit 0 set, for the access in flight.
+busy_read : reply_at undrained 7 ≡ Some (Value 1)
+busy_read = refl
+
+-- So the verdict at place 9 on the stalled requester breaks no law, and is the new table's.
+undrained_verdict : IsVerdictOn undrained 0 3 9
+unfolding lib.Count.count_trailing_zeros
+undrained_verdict = record { caller = 0; place = 5; access = read_by 3 0x80000000; verdict = Denied (record { kind = 1; entry = 0; quiet = false; irq = false; kept = true }); event = refl; reply = refl; submission = refl; requester = refl }
+
+still_stalled : is_flagged (state_at undrained 9 0) 3 ≡ true
+still_stalled = refl
+
+idle_read : reply_at undrained 10 ≡ Some (Value 0)
+unfolding lib.Count.count_trailing_zeros
+idle_read = refl
+
+-- ---- a drained window that ends early for one requester
+
+abbrev drained : History
+drained = of_events (opening ++ window ++ Submit 0 0 (read_by 3 0x80000000) ∷ RegWrite 0 0 12 1 ∷ Judge 0 0 5 ∷ RegRead 0 0 12 ∷ RegWrite 0 0 0x802 0x18 ∷ RegWrite 0 0 14 0x80000003 ∷ Submit 0 0 (read_by 3 0x80000000) ∷ Judge 0 0 11 ∷ Submit 0 0 (read_by 2 0) ∷ [])
+
+verdict_before : IsVerdictOn drained 0 3 7
+unfolding lib.Count.count_trailing_zeros
+verdict_before = record { caller = 0; place = 5; access = read_by 3 0x80000000; verdict = Allowed 3; event = refl; reply = refl; submission = refl; requester = refl }
+
+-- The window of requester 3 that begins at place 8 has places 9 and 10.
+in_window : IsInDrainedWindow drained 0 3 8 10
+unfolding lib.Count.count_trailing_zeros
+in_window = record {
+  caller = 0;
+  value = 0;
+  event = refl;
+  reply = refl;
+  idle = refl;
+  later = omega arith;
+  flagged = λ k l m. ⊎_elim
+      (λ (e : k ≡ 8). subst (λ j. is_flagged (state_at drained j 0) 3 ≡ true) (sym e) refl)
+      (λ (n : k ≡ 8 → ⊥). ⊎_elim
+      (λ (e : k ≡ 9). subst (λ j. is_flagged (state_at drained j 0) 3 ≡ true) (sym e) refl)
+      (λ (o : k ≡ 9 → ⊥). let e : k ≡ 10 = omega arith in subst (λ j. is_flagged (state_at drained j 0) 3 ≡ true) (sym e) refl)
+      (cases_eq k 9))
+      (cases_eq k 8);
+}
+
+-- It ends with the release at place 10, after which requester 2 is stalled still.
+ended : is_flagged (state_at drained 11 0) 3 ≡ false
+unfolding lib.Count.count_trailing_zeros
+ended = refl
+
+other_stalled : is_flagged (state_at drained 13 0) 2 ≡ true
+unfolding lib.Count.count_trailing_zeros
+other_stalled = refl
+
+verdict_after : IsVerdictOn drained 0 3 12
+unfolding lib.Count.count_trailing_zeros
+verdict_after = record { caller = 0; place = 11; access = read_by 3 0x80000000; verdict = Denied (record { kind = 1; entry = 0; quiet = false; irq = false; kept = true }); event = refl; reply = refl; submission = refl; requester = refl }
+
+-- ---- a full queue, and a ticket
+
+abbrev filled : History
+filled = of_events (opening ++ RegWrite 0 0 12 1 ∷ Submit 0 0 (read_by 3 0) ∷ Submit 0 0 (read_by 3 0) ∷ Judge 0 0 4 ∷ RegWrite 0 0 12 0 ∷ Judge 0 0 4 ∷ Judge 0 0 4 ∷ [])
+
+full : FindsFullQueue filled 5
+full = record { unit = 0; caller = 0; access = read_by 3 0; state = _; event = refl; here = refl; stalled = refl; full = refl; silent = refl }
+
+turned_away : reply_at filled 5 ≡ Some Busy
+turned_away = refl
+
+taken : IsTaken filled 0 0 4 (read_by 3 0)
+taken = record { event = refl; reply = inr refl }
+
+stands : StandsAt filled 0 0 4 (read_by 3 0) 8
+stands = (false, refl)
+
+held : reply_at filled 6 ≡ Some Held
+held = refl
+
+closing : IsOwnVerdict filled 0 0 4 8
+unfolding lib.Count.count_trailing_zeros
+closing = record { own = record { event = refl; later = omega arith }; verdict = _; reply = refl }
+
+gone : reply_at filled 9 ≡ Some NoSuch
+unfolding lib.Count.count_trailing_zeros
+gone = refl
+
+-- ---- guarded bits
+
+-- ENTRYLCK guards the entries below 3.
+abbrev locked : History
+locked = of_events (opening ++ RegWrite 0 0 0x13 6 ∷ RegWrite 0 0 0x808 0x55 ∷ RegWrite 0 0 0x80c 0x55 ∷ [])
+
+guarded : option_map (λ x. is_guarded x 0x808 0) (state_at locked 4 0) ≡ Some true
+guarded = refl
+
+unguarded_before : option_map (λ x. is_guarded x 0x808 0) (state_at locked 3 0) ≡ Some false
+unguarded_before = refl
+
+kept_value : option_map (λ x. bit_of x 0x808 0) (state_at locked 6 0) ≡ Some false
+kept_value = refl
+
+unguarded_entry : option_map (λ x. bit_of x 0x80c 0) (state_at locked 6 0) ≡ Some true
+unguarded_entry = refl

@@ -1,0 +1,201 @@
+-- Each kind of line keeps what holds of the state.
+use Rattle.std.proofs.Common.{◌≡◌, ℕ, ◌+◌, ◌<◌, ◌≤◌, Bool, true, false, List, [], ◌∷◌, ◌++◌, Ok, Result, length, count_by, cond, if◌then◌else◌, refl, ap, sym, subst, ◌∙◌, arith, length-append}
+use Rattle.std.proofs.lemmas.List.Sums.{count_by-le-length, sum_by-cons, sum_by_push}
+use Rattle.std.specs.List.{AllByRecursion}
+use Rattle.event_words.specs.declared.shape.Shape.{Shape}
+use Rattle.event_words.specs.declared.section.Command.{Command}
+use Rattle.event_words.specs.Valid.{IsValidShape}
+use Rattle.event_words.specs.Sections.{SectionOf, IsValidSection, AreValidCommands, IsValidCommand, NamesUnits, NamesOnlyUnits, is_submit}
+use Rattle.script_reader.specs.declared.reader.Place.{Place}
+use Rattle.script_reader.specs.declared.reader.Place.TheVariants.{Head, Units, Boot, Lane, Finished}
+use Rattle.script_reader.specs.Lines.{State, OpenSection, new_section, no_commands, section_of, with_command, start, next_lane}
+use Rattle.script_reader.specs.Sound.{IsSound, IsSoundSection, FitsPlace, IsInSection, MayFollow, IsGoodCommand}
+
+pub all_push : {A : Type 0} (P : A → Type 0) (xs : List A) (x : A) → AllByRecursion P xs → P x → AllByRecursion P (xs ++ x ∷ [])
+all_push P [] x all here = (here, tt)
+all_push P (y ∷ ys) x all here = (all.0, all_push P ys x all.1 here)
+
+-- ---- commands
+
+counted : (b : Bool) (n : ℕ) → (if b then n + 1 else n) ≡ n + cond b 1 0
+counted true n = refl
+counted false n = omega arith
+
+count_cons : (c : Command) (cs : List Command) → count_by is_submit (c ∷ cs) ≡ cond (is_submit c) 1 0 + count_by is_submit cs
+count_cons c cs = sum_by-cons (λ x. cond (is_submit x) 1 0) c cs
+
+count_push : (cs : List Command) (c : Command) → count_by is_submit (cs ++ c ∷ []) ≡ count_by is_submit cs + cond (is_submit c) 1 0
+count_push cs c = sum_by_push (λ x. cond (is_submit x) 1 0) cs c
+
+commands_push : (n m : ℕ) (cs : List Command) (c : Command) → AreValidCommands n cs → m ≡ n + count_by is_submit cs → IsValidCommand m c → AreValidCommands n (cs ++ c ∷ [])
+commands_push n m [] c all e here = (subst (λ k. IsValidCommand k c) (omega (arith, e)) here, tt)
+commands_push n m (d ∷ ds) c all e here =
+    (all.0, commands_push (if is_submit d then n + 1 else n) m ds c all.1 (omega (arith, e, counted (is_submit d) n, count_cons d ds)) here)
+
+pub section_push : (units : ℕ) (old new : OpenSection) (c : Command) → IsSoundSection units old → IsGoodCommand units (length old.names) c → new.commands ≡ old.commands ++ c ∷ []
+    → length new.names ≡ (if is_submit c then length old.names + 1 else length old.names) → IsSoundSection units new
+section_push units old new c sound good commands names = record {
+  names = names ∙ counted (is_submit c) (length old.names) ∙ ap (λ n. n + cond (is_submit c) 1 0) sound.names ∙ sym (count_push old.commands c) ∙ ap (count_by is_submit) (sym commands);
+  commands = subst (AreValidCommands 0) (sym commands) (commands_push 0 (length old.names) old.commands c sound.commands (omega (arith, sound.names)) good.valid);
+  units_there = subst (AllByRecursion (NamesUnits units)) (sym commands) (all_push (NamesUnits units) old.commands c sound.units_there good.units_there);
+}
+
+-- a command that makes no slot
+pub section_pushed : (units n slot : ℕ) (old new : OpenSection) (c : Command) → IsSoundSection units old → IsGoodCommand n slot c → n ≡ units → slot ≡ length old.names → is_submit c ≡ false
+    → (let read : Result OpenSection ℕ = Ok (with_command old c) in read ≡ Ok new) → IsSoundSection units new
+section_pushed units n slot old new c sound good count slots other e =
+    let same : with_command old c ≡ new = cc in
+    section_push units old new c sound (subst (λ k. IsGoodCommand k (length old.names) c) count (subst (λ k. IsGoodCommand n k c) slots good)) (ap (λ o. o.commands) (sym same))
+    (ap (λ o. length o.names) (sym same) ∙ ap (λ b. if b then length old.names + 1 else length old.names) (sym other))
+
+-- a submission
+pub section_submitted : (units n slot : ℕ) (old new : OpenSection) (c : Command) → IsSoundSection units old → IsGoodCommand n slot c → n ≡ units → slot ≡ length old.names → is_submit c ≡ true
+    → new.commands ≡ old.commands ++ c ∷ [] → length new.names ≡ length old.names + 1 → IsSoundSection units new
+section_submitted units n slot old new c sound good count slots submits commands names =
+    section_push units old new c sound (subst (λ k. IsGoodCommand k (length old.names) c) count (subst (λ k. IsGoodCommand n k c) slots good)) commands
+    (names ∙ ap (λ b. if b then length old.names + 1 else length old.names) (sym submits))
+
+-- ---- lines
+
+pub sound_start : (s : State) → s ≡ start → IsSound s
+sound_start s e = subst IsSound (sym e) (record {
+  few_shapes = omega arith;
+  shapes = tt;
+  boot = record { few = omega arith; slots = refl; commands = tt };
+  boot_units = tt;
+  lanes = tt;
+  lanes_units = tt;
+  section = record { names = refl; commands = tt; units_there = tt };
+  place = record { boot = refl; lanes = refl; section = refl };
+})
+
+pub sound_head : (s : State) → s.place ≡ Head → IsSound s → IsSound (record s { place = Units })
+sound_head s e sound =
+    let here : FitsPlace Head s = subst (λ p. FitsPlace p s) e sound.place in
+    record {
+      few_shapes = sound.few_shapes;
+      shapes = sound.shapes;
+      boot = sound.boot;
+      boot_units = sound.boot_units;
+      lanes = sound.lanes;
+      lanes_units = sound.lanes_units;
+      section = sound.section;
+      place = record { boot = here.boot; lanes = here.lanes; section = here.section };
+    }
+
+-- what no section has begun to name
+blank_boot : (units : ℕ) (boot : SectionOf) → boot ≡ no_commands → NamesOnlyUnits units boot
+blank_boot units boot e = subst (NamesOnlyUnits units) (sym e) tt
+
+blank_lanes : (units : ℕ) (lanes : List SectionOf) → lanes ≡ [] → AllByRecursion (NamesOnlyUnits units) lanes
+blank_lanes units lanes e = subst (AllByRecursion (NamesOnlyUnits units)) (sym e) tt
+
+blank_section : (units : ℕ) (open_section : OpenSection) → open_section ≡ new_section → IsSoundSection units open_section
+blank_section units open_section e = subst (IsSoundSection units) (sym e) (record { names = refl; commands = tt; units_there = tt })
+
+pub sound_unit : (s : State) (shape : Shape) → s.place ≡ Units → length s.shapes < 4 → IsValidShape shape → IsSound s → IsSound (record s { shapes = s.shapes ++ shape ∷ [] })
+sound_unit s shape e few valid sound =
+    let here : FitsPlace Units s = subst (λ p. FitsPlace p s) e sound.place in
+    record {
+      few_shapes = omega (arith, length-append s.shapes (shape ∷ []));
+      shapes = all_push IsValidShape s.shapes shape sound.shapes valid;
+      boot = sound.boot;
+      boot_units = blank_boot _ s.boot here.boot;
+      lanes = sound.lanes;
+      lanes_units = blank_lanes _ s.lanes here.lanes;
+      section = blank_section _ s.section here.section;
+      place = subst (λ p. FitsPlace p (record s { shapes = s.shapes ++ shape ∷ [] })) (sym e) (record { boot = here.boot; lanes = here.lanes; section = here.section });
+    }
+
+pub sound_boot : (s : State) → s.place ≡ Units → 1 ≤ length s.shapes → IsSound s → IsSound (record s { place = Boot })
+sound_boot s e some sound =
+    let here : FitsPlace Units s = subst (λ p. FitsPlace p s) e sound.place in
+    record {
+      few_shapes = sound.few_shapes;
+      shapes = sound.shapes;
+      boot = sound.boot;
+      boot_units = sound.boot_units;
+      lanes = sound.lanes;
+      lanes_units = sound.lanes_units;
+      section = sound.section;
+      place = record { some_units = some; few_lanes = omega (arith, ap length here.lanes) };
+    }
+
+fits_section : (p : Place) (s : State) (new : OpenSection) → IsInSection p → FitsPlace p s → FitsPlace p (record s { section = new })
+fits_section Head s new i fits = absurd i
+fits_section Units s new i fits = absurd i
+fits_section Finished s new i fits = absurd i
+fits_section Boot s new i fits = record { some_units = fits.some_units; few_lanes = fits.few_lanes }
+fits_section Lane s new i fits = record { some_units = fits.some_units; few_lanes = fits.few_lanes }
+
+pub sound_section : (s : State) (new : OpenSection) → IsInSection s.place → IsSoundSection (length s.shapes) new → IsSound s → IsSound (record s { section = new })
+sound_section s new i section sound = record {
+  few_shapes = sound.few_shapes;
+  shapes = sound.shapes;
+  boot = sound.boot;
+  boot_units = sound.boot_units;
+  lanes = sound.lanes;
+  lanes_units = sound.lanes_units;
+  section = section;
+  place = fits_section s.place s new i sound.place;
+}
+
+-- a section that is whole
+pub whole_section : (units : ℕ) (open_section : OpenSection) → IsSoundSection units open_section → length open_section.commands ≤ 4194304 → IsValidSection (section_of open_section)
+whole_section units open_section sound few = record { few = few; slots = sound.names; commands = sound.commands }
+
+new_is_sound : (units : ℕ) → IsSoundSection units new_section
+new_is_sound units = record { names = refl; commands = tt; units_there = tt }
+
+fits_next : (next : Place) (s t : State) → MayFollow next s → 1 ≤ length t.shapes → length t.lanes + 1 ≤ next_lane s.place s.lanes → next_lane s.place s.lanes ≤ 17 → FitsPlace next t
+fits_next Head s t follows some more few = absurd follows
+fits_next Units s t follows some more few = absurd follows
+fits_next Boot s t follows some more few = absurd follows
+fits_next Lane s t follows some more few = record { some_units = some; few_lanes = omega (arith, follows, more) }
+fits_next Finished s t follows some more few = record { some_units = some; few_lanes = omega (arith, few, more) }
+
+-- the boot section is whole
+pub close_boot : (s : State) (next : Place) → s.place ≡ Boot → length s.section.commands ≤ 4194304 → MayFollow next s → IsSound s → IsSound (record s { boot = section_of s.section; section = new_section; place = next })
+close_boot s next e few follows sound =
+    let here : FitsPlace Boot s = subst (λ p. FitsPlace p s) e sound.place in
+    let count : next_lane s.place s.lanes ≡ 1 = ap (λ p. next_lane p s.lanes) e in
+    record {
+      few_shapes = sound.few_shapes;
+      shapes = sound.shapes;
+      boot = whole_section _ s.section sound.section few;
+      boot_units = sound.section.units_there;
+      lanes = sound.lanes;
+      lanes_units = sound.lanes_units;
+      section = new_is_sound _;
+      place = fits_next next s (record s { boot = section_of s.section; section = new_section; place = next }) follows here.some_units (omega (arith, here.few_lanes)) (omega arith);
+    }
+
+-- a lane is whole
+pub close_lane : (s : State) (next : Place) → s.place ≡ Lane → length s.section.commands ≤ 4194304 → MayFollow next s → IsSound s
+    → IsSound (record s { lanes = s.lanes ++ section_of s.section ∷ []; section = new_section; place = next })
+close_lane s next e few follows sound =
+    let here : FitsPlace Lane s = subst (λ p. FitsPlace p s) e sound.place in
+    let count : next_lane s.place s.lanes ≡ length s.lanes + 2 = ap (λ p. next_lane p s.lanes) e in
+    let more : length (s.lanes ++ section_of s.section ∷ []) ≡ length s.lanes + 1 = omega (arith, length-append s.lanes (section_of s.section ∷ [])) in
+    record {
+      few_shapes = sound.few_shapes;
+      shapes = sound.shapes;
+      boot = sound.boot;
+      boot_units = sound.boot_units;
+      lanes = all_push IsValidSection s.lanes (section_of s.section) sound.lanes (whole_section _ s.section sound.section few);
+      lanes_units = all_push (NamesOnlyUnits (length s.shapes)) s.lanes (section_of s.section) sound.lanes_units sound.section.units_there;
+      section = new_is_sound _;
+      place = fits_next next s (record s { lanes = s.lanes ++ section_of s.section ∷ []; section = new_section; place = next }) follows here.some_units (omega arith) (omega (arith, here.few_lanes));
+    }
+
+-- ---- what callers learn
+
+pub units_in_section : (p : Place) (s : State) → IsInSection p → FitsPlace p s → 1 ≤ length s.shapes
+units_in_section Boot s i fits = fits.some_units
+units_in_section Lane s i fits = fits.some_units
+units_in_section Head s i fits = absurd i
+units_in_section Units s i fits = absurd i
+units_in_section Finished s i fits = absurd i
+
+pub few_names : (units : ℕ) (o : OpenSection) → IsSoundSection units o → length o.names ≤ length o.commands
+few_names units o sound = omega (arith, sound.names, count_by-le-length is_submit o.commands)

@@ -1,0 +1,12 @@
+pub mod Codes
+pub mod Text
+pub mod Numbers
+pub mod Words
+pub mod UnitLines
+pub mod Names
+pub mod Commands
+pub mod Lines
+pub mod Scripts
+pub mod Sound
+pub mod Steps
+pub mod Answers

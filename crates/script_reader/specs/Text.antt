@@ -1,0 +1,27 @@
+-- The lines of a text and the words of a line.
+use Rattle.std.specs.Prelude.{ℕ, ◌-◌, ◌==◌, ◌&&◌, ◌||◌, nat_le, Bool, if◌then◌else◌, List, [], length, filter, not, take, slice_index}
+use Rattle.std.specs.List.{slice_split}
+
+abbrev pub is_line_feed : ℕ → Bool
+is_line_feed b = b == 10
+
+-- space, tab and carriage return stand between words
+abbrev pub is_blank : ℕ → Bool
+is_blank b = b == 32 || (b == 9 || b == 13)
+
+-- a byte that may stand in a line
+abbrev pub is_plain : ℕ → Bool
+is_plain b = (nat_le 32 b && nat_le b 126) || (b == 9 || b == 13)
+
+-- the text without the line feed at its end, if it has one
+abbrev pub without_last_line_feed : List ℕ → List ℕ
+without_last_line_feed text = if slice_index text (length text - 1) == 10 then take (length text - 1) text else text
+
+abbrev pub lines_of : List ℕ → List (List ℕ)
+lines_of text = if length text == 0 then [] else slice_split is_line_feed (without_last_line_feed text)
+
+abbrev pub has_bytes : List ℕ → Bool
+has_bytes word = not (length word == 0)
+
+abbrev pub words_of : List ℕ → List (List ℕ)
+words_of line = filter has_bytes (slice_split is_blank line)
