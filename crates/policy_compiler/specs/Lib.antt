@@ -1,0 +1,11 @@
+pub mod Policies
+pub mod Paths
+pub mod Tables
+pub mod Rules
+pub mod Reading
+pub mod Gives
+pub mod Decides
+pub mod Images
+pub mod Needs
+pub mod Fitting
+pub mod Laws
