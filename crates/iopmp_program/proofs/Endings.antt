@@ -67,7 +67,7 @@ run_ends s bytes script status history read stands (inr (inr w)) = stopped_ends 
 
 -- ---- completeness follows from what each status says
 
-read_is : (left : Option (List ℕ)) (bytes bs : List ℕ) → left ≡ Some bytes → IfSome left (λ xs. bs ≡ xs) → bs ≡ bytes
+pub read_is : (left : Option (List ℕ)) (bytes bs : List ℕ) → left ≡ Some bytes → IfSome left (λ xs. bs ≡ xs) → bs ≡ bytes
 read_is None bytes bs e h = cc
 read_is (Some xs) bytes bs e h = let p : xs ≡ bytes = cc in h ∙ p
 
@@ -78,7 +78,7 @@ refused_not s h text r =
     let p = h.stands_for in
     cc
 
-long_not : (left after : Option (List ℕ)) (bytes given : List ℕ) → left ≡ Some bytes → length bytes ≤ 4194304 → Consumes left after given → 4194304 < length given → ⊥
+pub long_not : (left after : Option (List ℕ)) (bytes given : List ℕ) → left ≡ Some bytes → length bytes ≤ 4194304 → Consumes left after given → 4194304 < length given → ⊥
 long_not None after bytes given e few c long = cc
 long_not (Some xs) None bytes given e few c long = absurd c
 long_not (Some xs) (Some ys) bytes given e few c long =

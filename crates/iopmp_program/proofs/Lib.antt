@@ -1,3 +1,4 @@
 pub mod Repeats
 pub mod UnitLines
 pub mod Endings
+pub mod Compiling

@@ -6,3 +6,6 @@ pub mod FaultLines
 pub mod Runs
 pub mod Endings
 pub mod Prints
+pub mod PolicyLines
+pub mod Compiles
+pub mod ImageTexts

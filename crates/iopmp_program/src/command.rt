@@ -8,6 +8,8 @@ ghost use Rattle.iopmp_program.specs.Commands.{command_of};
 pub enum Command {
     /// Plays a script and prints the report of its history.
     Run,
+    /// Compiles a policy and prints the script of its image.
+    Compile,
 }
 
 /// The command that the words after the program's name are, if they are one.
@@ -16,6 +18,7 @@ pub fn command_in(words: &[String]) -> Option<Command>
 {
     match words {
         [word] if word.as_str() == "run" => Some(Command::Run),
+        [word] if word.as_str() == "compile" => Some(Command::Compile),
         _ => None,
     }
 }

@@ -4,6 +4,7 @@
 #![tactic(auto)]
 
 mod command;
+mod compiling;
 mod fault_line;
 mod memory;
 mod playing;

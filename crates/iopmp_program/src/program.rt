@@ -9,10 +9,12 @@ ghost use Rattle.iopmp_program.specs.Commands.{command_of};
 ghost use Rattle.iopmp_program.specs.FaultLines.{usage_line};
 ghost use Rattle.iopmp_program.specs.Runs.{IsRun};
 ghost use Rattle.iopmp_program.specs.Endings.{streams, EndsUsage, EndsRun, CompletesRun};
+ghost use Rattle.iopmp_program.specs.Compiles.{EndsCompile, CompletesCompile};
 ghost use Rattle.iopmp_program.specs.Prints.{sink_change, Refuses, RefusesInput, Reports};
 
 use crate::NoMemory;
 use crate::command::{Command, command_in};
+use crate::compiling::compile_command;
 use crate::fault_line::{refusal_line, too_long_line, usage_line};
 use crate::playing::play;
 use crate::reports::report;
@@ -25,7 +27,7 @@ use std::alloc::Global;
 use std::thread::Threads;
 
 /// The most bytes of an input.
-const MOST_BYTES: usize = 4194304;
+pub const MOST_BYTES: usize = 4194304;
 
 /// A history and its report.
 #[derive(Drop)]
@@ -51,7 +53,7 @@ fn run_script<R: Threads + Sync, G: Sync>(
     Ok(Run { history, text })
 }
 
-fn without_history(status: Status) -> Outcome
+pub fn without_history(status: Status) -> Outcome
     ensures { result ≡ record { status = status; history = None } }
 {
     Outcome {
@@ -61,7 +63,7 @@ fn without_history(status: Status) -> Outcome
 }
 
 /// Writes a fault line.
-fn refuse<K: Sink>(sink: &mut K, status: Status, line: &[u8]) -> Outcome
+pub fn refuse<K: Sink>(sink: &mut K, status: Status, line: &[u8]) -> Outcome
     ensures { Refuses (sink_change (K.taken sink.old) (K.taken sink.new) (K.faults sink.old) (K.faults sink.new)) status line.now result.status result.history }
 {
     match write_all(sink, line) {
@@ -146,9 +148,15 @@ pub fn top<R: Threads + Sync, S: Source, K: Sink, G: Sync>(
         EndsRun (streams (S.left source.old) (S.left source.new) (S.faults source.old) (S.faults source.new) (K.taken sink.old) (K.taken sink.new) (K.faults sink.old) (K.faults sink.new)) result.status result.history }
     ensures run_completes { command_of (map string_bytes words.now) ≡ Some commands.Run →
         CompletesRun (streams (S.left source.old) (S.left source.new) (S.faults source.old) (S.faults source.new) (K.taken sink.old) (K.taken sink.new) (K.faults sink.old) (K.faults sink.new)) result.status }
+
+    ensures compile { command_of (map string_bytes words.now) ≡ Some commands.Compile →
+        EndsCompile (streams (S.left source.old) (S.left source.new) (S.faults source.old) (S.faults source.new) (K.taken sink.old) (K.taken sink.new) (K.faults sink.old) (K.faults sink.new)) result.status result.history }
+    ensures compile_completes { command_of (map string_bytes words.now) ≡ Some commands.Compile →
+        CompletesCompile (streams (S.left source.old) (S.left source.new) (S.faults source.old) (S.faults source.new) (K.taken sink.old) (K.taken sink.new) (K.faults sink.old) (K.faults sink.new)) result.status }
 {
     match command_in(words) {
         None => refuse(sink, Status::Usage, usage_line().as_bytes()),
         Some(Command::Run) => run_command(rt, alloc, source, sink, gate),
+        Some(Command::Compile) => compile_command(alloc, source, sink),
     }
 }

@@ -10,3 +10,4 @@ pub mod Scripts
 pub mod Sound
 pub mod Steps
 pub mod Answers
+pub mod Printed

@@ -7,6 +7,7 @@
 mod command;
 mod name;
 mod number;
+mod print;
 mod reader;
 mod script;
 mod section;
@@ -15,4 +16,5 @@ mod text;
 mod unit_line;
 mod words;
 
+pub use print::{NoMemory, print_script};
 pub use script::{Script, ScriptError, read_script};
