@@ -45,7 +45,7 @@ needs_of None needs.NoMemory p line h n = cc
 pub prints : (p : PolicyOf) (i : ImageOf) (script : ScriptOf) (text : List ℕ) → Compiles (need_refusal p) (Ok i) p → script ≡ image_script i → text ≡ script_text script → IsPrinted p text
 prints p i script text c s t = record {
   fits = (fits_of (need_refusal p) i p c).0;
-  printed = t ∙ ap script_text s ∙ ap (λ j. script_text (image_script j)) (fits_of (need_refusal p) i p c).1
+  printed = t ∙ ap script_text s ∙ ap (λ j. script_text (image_script j)) (fits_of (need_refusal p) i p c).1;
 }
 
 pub too_much : (p : PolicyOf) (e : CompileError) (refusal : NoImage) → Compiles (need_refusal p) (Err e) p → HasLine refusal (need_line e) → PrintsPolicy (Err refusal) p

@@ -5,6 +5,8 @@
 
 mod command;
 mod compiling;
+#[cfg(test)]
+mod compiling_tests;
 mod fault_line;
 mod memory;
 mod playing;
