@@ -19,7 +19,7 @@ use Rattle.policy_compiler.proofs.Held.{HoldsEntries, IsHeld, Holds, entries_spl
 
 -- ---- owners
 
-end_small : (before : ℕ) (hs : List HardwareOf) (k : ℕ) → end_at before hs k ≤ before + entry_count hs
+pub end_small : (before : ℕ) (hs : List HardwareOf) (k : ℕ) → end_at before hs k ≤ before + entry_count hs
 end_small before [] k = omega arith
 end_small before (h ∷ hs) zero = omega arith
 end_small before (h ∷ hs) (suc k) = omega (arith, end_small (before + length h.entries) hs k)

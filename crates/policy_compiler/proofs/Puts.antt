@@ -16,10 +16,7 @@ IsWithin low high p = (low ≤ p.index) × (p.index < high)
 abbrev pub AreWithin : ℕ → ℕ → List RegPair → Type 0
 AreWithin low high ps = AllByRecursion (IsWithin low high) ps
 
--- an index below the writes or above them
-pub record IsOut (low high i : ℕ) : Type 0 where
-  pub out : (i < low) ⊎ (high ≤ i)
-
+-- an index below the writes or above them keeps its word
 pub untouched : (ws : List ℕ) (ps : List RegPair) (low high i : ℕ) → AreWithin low high ps → (i < low) ⊎ (high ≤ i) → get_or (puts ws ps) i 0 ≡ get_or ws i 0
 untouched ws [] low high i all out = refl
 untouched ws (p ∷ ps) low high i all out =

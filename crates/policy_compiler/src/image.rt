@@ -3,6 +3,7 @@ ghost use Rattle.std.specs.Prelude.{◌≡◌, ◌≤◌, IfOk};
 ghost use Rattle.policy_compiler.specs.Policies.{IsPolicy};
 ghost use Rattle.policy_compiler.specs.Needs.{need_domains, need_entries, need_refusal, Compiles};
 ghost use Rattle.policy_compiler.specs.Images.{image_of};
+ghost use Rattle.policy_compiler.specs.Laws.{DecidesAs};
 
 use crate::read::RuleKind;
 use crate::{Policy, hardware, needs, writes};
@@ -77,6 +78,18 @@ fn fitting_image(alloc: Global, policy: &Policy) -> Result<Image, AllocError>
     })
 }
 
+/// The same, with what a unit decides after it.
+fn lawful_image(alloc: Global, policy: &Policy) -> Result<Image, AllocError>
+    requires policy { IsPolicy policy.now }
+    requires domains { need_domains policy.now ≤ policy.now.shape.domains }
+    requires entries { need_entries policy.now ≤ policy.now.shape.entries }
+    ensures image { IfOk result (λ i. i ≡ image_of policy.now) }
+    ensures law { IfOk result (DecidesAs policy.now) }
+{
+    let image = fitting_image(alloc, policy)?;
+    Ok(image)
+}
+
 /// Compiles a policy, which must be one that `read_policy` can give. It needs a hardware domain for
 /// each policy domain that has guards and one for each that has grants, an entry for each rule that
 /// one entry can hold and two for each other rule.
@@ -84,6 +97,9 @@ fn fitting_image(alloc: Global, policy: &Policy) -> Result<Image, AllocError>
 pub fn compile(alloc: Global, policy: &Policy) -> Result<Image, CompileError>
     requires { IsPolicy policy.now }
     ensures image { Compiles (need_refusal policy.now) result policy.now }
+
+    // After the image's writes from reset, the unit decides every access as the policy does.
+    ensures law { IfOk result (DecidesAs policy.now) }
 {
     let need = need_domains(policy);
     let have = policy.shape.domains as u32;
@@ -95,7 +111,7 @@ pub fn compile(alloc: Global, policy: &Policy) -> Result<Image, CompileError>
     if have < need {
         return Err(CompileError::TooManyEntries { need, have });
     }
-    match fitting_image(alloc, policy) {
+    match lawful_image(alloc, policy) {
         Ok(image) => Ok(image),
         Err(_) => Err(CompileError::NoMemory),
     }
