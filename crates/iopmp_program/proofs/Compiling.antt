@@ -18,6 +18,7 @@ use Rattle.policy_compiler.specs.Reading.{policy_of}
 use Rattle.policy_compiler.specs.Gives.{Reads}
 use Rattle.policy_compiler.specs.Needs.{need_refusal, Compiles}
 use Rattle.policy_compiler.specs.Images.{ImageOf, image_of}
+use Rattle.policy_compiler.specs.Laws.{DecidesAs}
 use Rattle.iopmp_program.specs.declared.status.Status.{Status}
 use Rattle.iopmp_program.specs.declared.status.Status.TheVariants.{Done, Usage, BadInput, ReadFault, WriteFault, NoMemory, TooLong}
 use Rattle.iopmp_program.specs.declared.compiling.NoImage.{NoImage}
@@ -42,11 +43,15 @@ needs_of None (TooManyDomains need have) p line h n = cc
 needs_of None (TooManyEntries need have) p line h n = cc
 needs_of None needs.NoMemory p line h n = cc
 
-pub prints : (p : PolicyOf) (i : ImageOf) (script : ScriptOf) (text : List ℕ) → Compiles (need_refusal p) (Ok i) p → script ≡ image_script i → text ≡ script_text script → IsPrinted p text
-prints p i script text c s t = record {
-  fits = (fits_of (need_refusal p) i p c).0;
-  printed = t ∙ ap script_text s ∙ ap (λ j. script_text (image_script j)) (fits_of (need_refusal p) i p c).1;
-}
+pub prints : (p : PolicyOf) (i : ImageOf) (script : ScriptOf) (text : List ℕ) → Compiles (need_refusal p) (Ok i) p → DecidesAs p i
+    → script ≡ image_script i → text ≡ script_text script → IsPrinted p text
+prints p i script text c d s t =
+    let same : i ≡ image_of p = (fits_of (need_refusal p) i p c).1 in
+    record {
+        fits = (fits_of (need_refusal p) i p c).0;
+        printed = t ∙ ap script_text s ∙ ap (λ j. script_text (image_script j)) same;
+        decides = subst (DecidesAs p) same d
+    }
 
 pub too_much : (p : PolicyOf) (e : CompileError) (refusal : NoImage) → Compiles (need_refusal p) (Err e) p → HasLine refusal (need_line e) → PrintsPolicy (Err refusal) p
 too_much p e (Refused line) c h = record { error = e; needs = needs_of (need_refusal p) e p (string_bytes line) c h; named = h }
@@ -55,7 +60,7 @@ too_much p e parts.NoMemory c h = tt
 -- ---- a text's image, or its refusal
 
 pub image_of_text : (bytes : List ℕ) (p : PolicyOf) (result : Result (Vec ℕ Global) NoImage) → Reads (Ok p) bytes → PrintsPolicy result p → PrintsImage result bytes
-image_of_text bytes p (Ok text) r h = record { policy = p; stands_for = r; fits = h.fits; printed = h.printed }
+image_of_text bytes p (Ok text) r h = record { policy = p; stands_for = r; fits = h.fits; printed = h.printed; decides = h.decides }
 image_of_text bytes p (Err (Refused line)) r h = inr (record { policy = p; error = h.error; stands_for = r; needs = h.needs; named = h.named })
 image_of_text bytes p (Err parts.NoMemory) r h = tt
 

@@ -12,6 +12,7 @@ use Rattle.policy_compiler.specs.Policies.{PolicyOf}
 use Rattle.policy_compiler.specs.Gives.{Reads}
 use Rattle.policy_compiler.specs.Needs.{need_refusal}
 use Rattle.policy_compiler.specs.Images.{ImageOf, image_of}
+use Rattle.policy_compiler.specs.Laws.{DecidesAs}
 use Rattle.iopmp_program.specs.declared.status.Status.{Status}
 use Rattle.iopmp_program.specs.declared.status.Status.TheVariants.{Done, Usage, BadInput, ReadFault, WriteFault, NoMemory, TooLong}
 use Rattle.iopmp_program.specs.PolicyLines.{policy_line, need_line}
@@ -28,12 +29,14 @@ image_script i = record { shapes = i.shape ∷ []; boot = record { commands = ma
 
 -- ---- what a text gives
 
--- The text stands for a policy whose needs fit its unit, and the output is the printed script of its image.
+-- The text stands for a policy whose needs fit its unit, and the output is the printed script of its
+-- image. After its writes from reset, the unit decides every access as the policy does.
 pub record IsCompiled (bytes text : List ℕ) : Type 0 where
   pub policy : PolicyOf
   pub stands_for : Reads (Ok policy) bytes
   pub fits : need_refusal policy ≡ None
   pub printed : text ≡ script_text (image_script (image_of policy))
+  pub decides : DecidesAs policy (image_of policy)
 
 -- The text is no policy, and the line names its first fault.
 pub record IsNoPolicy (bytes line : List ℕ) : Type 0 where

@@ -7,6 +7,7 @@ use Rattle.policy_compiler.specs.declared.image.CompileError.{CompileError}
 use Rattle.policy_compiler.specs.Policies.{PolicyOf}
 use Rattle.policy_compiler.specs.Needs.{need_refusal}
 use Rattle.policy_compiler.specs.Images.{image_of}
+use Rattle.policy_compiler.specs.Laws.{DecidesAs}
 use Rattle.iopmp_program.specs.declared.compiling.NoImage.{NoImage}
 use Rattle.iopmp_program.specs.declared.compiling.NoImage.TheVariants.{Refused, NoMemory}
 use Rattle.iopmp_program.specs.PolicyLines.{need_line}
@@ -20,6 +21,7 @@ HasLine NoMemory wanted = Unit {0}
 pub record IsPrinted (policy : PolicyOf) (text : List ℕ) : Type 0 where
   pub fits : need_refusal policy ≡ None
   pub printed : text ≡ script_text (image_script (image_of policy))
+  pub decides : DecidesAs policy (image_of policy)
 
 pub record IsTooMuch (policy : PolicyOf) (line : List ℕ) : Type 0 where
   pub error : CompileError
