@@ -1,4 +1,4 @@
 pub mod Repeats
 pub mod UnitLines
 pub mod Endings
-pub mod Compiling
+pub mod ImageEndings

@@ -48,9 +48,9 @@ pub prints : (p : PolicyOf) (i : ImageOf) (script : ScriptOf) (text : List ℕ) 
 prints p i script text c d s t =
     let same : i ≡ image_of p = (fits_of (need_refusal p) i p c).1 in
     record {
-        fits = (fits_of (need_refusal p) i p c).0;
-        printed = t ∙ ap script_text s ∙ ap (λ j. script_text (image_script j)) same;
-        decides = subst (DecidesAs p) same d
+      fits = (fits_of (need_refusal p) i p c).0;
+      printed = t ∙ ap script_text s ∙ ap (λ j. script_text (image_script j)) same;
+      decides = subst (DecidesAs p) same d;
     }
 
 pub too_much : (p : PolicyOf) (e : CompileError) (refusal : NoImage) → Compiles (need_refusal p) (Err e) p → HasLine refusal (need_line e) → PrintsPolicy (Err refusal) p
