@@ -44,16 +44,17 @@ fn policy_line(alloc: Global, error: &PolicyError) -> Result<String, NoMemory>
 fn need_line(alloc: Global, error: &CompileError) -> Result<String, NoMemory>
     ensures { IfOk result (λ line. need_line error.now ≡ Some (string_bytes line)) }
 {
-    let line = match *error {
+    match *error {
         CompileError::TooManyDomains { need, have } => {
-            format!(in alloc; "iopmp: policy needs {need} domains of {have}\n")?
+            let line = format!(in alloc; "iopmp: policy needs {need} domains of {have}\n")?;
+            Ok(line)
         }
         CompileError::TooManyEntries { need, have } => {
-            format!(in alloc; "iopmp: policy needs {need} entries of {have}\n")?
+            let line = format!(in alloc; "iopmp: policy needs {need} entries of {have}\n")?;
+            Ok(line)
         }
-        CompileError::NoMemory => return Err(NoMemory),
-    };
-    Ok(line)
+        CompileError::NoMemory => Err(NoMemory),
+    }
 }
 
 fn no_policy(alloc: Global, error: &PolicyError) -> NoImage
