@@ -20,7 +20,7 @@ abbrev pub sink_of : Streams → SinkChange
 sink_of s = sink_change s.taken_before s.taken_after s.sink_before s.sink_after
 
 -- the same status and history
-along : (P : Status → Option (List ℕ) → Type 0) (a b : Status) (h i : Option (List ℕ)) → a ≡ b → h ≡ i → P b i → P a h
+pub along : (P : Status → Option (List ℕ) → Type 0) (a b : Status) (h i : Option (List ℕ)) → a ≡ b → h ≡ i → P b i → P a h
 along P a b h i p q x = subst (λ j. P a j) (sym q) (subst (λ c. P c i) (sym p) x)
 
 pub usage_ends : (s : Streams) (status : Status) (history : Option (List ℕ)) → Refuses (sink_of s) Usage usage_line status history → EndsUsage s status history

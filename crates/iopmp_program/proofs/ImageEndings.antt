@@ -3,7 +3,6 @@ use Rattle.std.proofs.Common.{◌≡◌, ◌⊎◌, ℕ, List, Vec, Option, Some
 use Rattle.std.specs.declared.result.Result.{Result}
 use Rattle.std.specs.declared.alloc.Global.{Global}
 use Rattle.std.specs.String.{string_bytes}
-use Rattle.toml.specs.Data.{Members}
 use Rattle.script_reader.specs.Scripts.{ScriptOf}
 use Rattle.script_reader.specs.Printed.{script_text}
 use Rattle.policy_compiler.specs.declared.path.Fault.{Fault}
@@ -93,18 +92,18 @@ long_ends s line status history long (inr w) =
 
 -- ---- completeness follows from what each status says
 
-two_not : (t u : Members) (p : PolicyOf) (f : Fault) → Some t ≡ Some u → policy_of t ≡ Ok p → policy_of u ≡ Err f → ⊥
-two_not t u p f e g b = cc
+two_not : {M : Type 0} (read : M → Result PolicyOf Fault) (t u : M) (p : PolicyOf) (f : Fault) → Some t ≡ Some u → read t ≡ Ok p → read u ≡ Err f → ⊥
+two_not read t u p f e g b = cc
 
 fault_not : (bytes : List ℕ) (p : PolicyOf) (e : PolicyError) (line : List ℕ) → Reads (Ok p) bytes → Reads (Err e) bytes → policy_line e ≡ Some line → ⊥
 fault_not bytes p Toml line good bad n = bad good.0 good.1
-fault_not bytes p (Key path) line good bad n = two_not good.0 bad.0 p _ (sym good.1.1 ∙ bad.1.1) good.2 bad.2
-fault_not bytes p (Range path) line good bad n = two_not good.0 bad.0 p _ (sym good.1.1 ∙ bad.1.1) good.2 bad.2
-fault_not bytes p (Name path) line good bad n = two_not good.0 bad.0 p _ (sym good.1.1 ∙ bad.1.1) good.2 bad.2
+fault_not bytes p (Key path) line good bad n = two_not policy_of good.0 bad.0 p _ (sym good.1.1 ∙ bad.1.1) good.2 bad.2
+fault_not bytes p (Range path) line good bad n = two_not policy_of good.0 bad.0 p _ (sym good.1.1 ∙ bad.1.1) good.2 bad.2
+fault_not bytes p (Name path) line good bad n = two_not policy_of good.0 bad.0 p _ (sym good.1.1 ∙ bad.1.1) good.2 bad.2
 fault_not bytes p texts.NoMemory line good bad n = cc
 
-same_policy : (t u : Members) (p q : PolicyOf) → Some t ≡ Some u → policy_of t ≡ Ok p → policy_of u ≡ Ok q → p ≡ q
-same_policy t u p q e g b = cc
+same_policy : {M : Type 0} (read : M → Result PolicyOf Fault) (t u : M) (p q : PolicyOf) → Some t ≡ Some u → read t ≡ Ok p → read u ≡ Ok q → p ≡ q
+same_policy read t u p q e g b = cc
 
 need_not : (p q : PolicyOf) (e : CompileError) → p ≡ q → need_refusal p ≡ None → need_refusal q ≡ Some e → ⊥
 need_not p q e s f n = cc
@@ -112,7 +111,7 @@ need_not p q e s f n = cc
 refused_not : (bytes : List ℕ) (p : PolicyOf) (line : List ℕ) → Reads (Ok p) bytes → need_refusal p ≡ None → IsRefused bytes line → ⊥
 refused_not bytes p line good fits (inl n) = fault_not bytes p n.error line good n.fault n.named
 refused_not bytes p line good fits (inr n) =
-    need_not p n.policy n.error (same_policy good.0 n.stands_for.0 p n.policy (sym good.1.1 ∙ n.stands_for.1.1) good.2 n.stands_for.2) fits n.needs
+    need_not p n.policy n.error (same_policy policy_of good.0 n.stands_for.0 p n.policy (sym good.1.1 ∙ n.stands_for.1.1) good.2 n.stands_for.2) fits n.needs
 
 no_refusal : (s : Streams) (h : HasPolicy s) (text : List ℕ) → IsPolicyRefusal s text → ⊥
 no_refusal s h text r =
