@@ -110,6 +110,6 @@ fn the_first_fault_is_named(rt: HostRuntime) -> Result<(), Fail> {
     bytes.push(0xff)?;
     let (ended, taken) = compiled(alloc, &bytes)?;
     assert_eq!(rt; ended, Status::BadInput);
-    assert_eq!(rt; taken.as_slice(), b"iopmp: policy toml\n");
+    assert_eq!(rt; taken.as_slice(), "iopmp: policy toml\n".as_bytes());
     Ok(())
 }
