@@ -1,5 +1,5 @@
 -- How the parts end is how the command ends.
-use Rattle.std.proofs.Common.{◌≡◌, ◌∙◌, Err, ap, sym, subst}
+use Rattle.std.proofs.Common.{◌∙◌, Err, ap, sym, subst}
 use Rattle.std.specs.String.{string_bytes}
 use Rattle.iopmp_program.specs.declared.compiling.NoImage.TheVariants.{Refused}
 use Rattle.iopmp_program.specs.Compiles.{IsRefused}

@@ -1,5 +1,5 @@
 -- The formatted line is the named one.
-use Rattle.std.proofs.Common.{◌≡◌, Some, ap, sym}
+use Rattle.std.proofs.Common.{Some, ap, sym}
 use Rattle.iopmp_program.proofs.compiling.need_line.Goals as goal
 
 pub returns-in_ok-line-in-TooManyDomains : goal.returns-in_ok-line-in-TooManyDomains
