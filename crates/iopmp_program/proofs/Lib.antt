@@ -1,0 +1,4 @@
+pub mod Repeats
+pub mod UnitLines
+pub mod Endings
+pub mod ImageEndings

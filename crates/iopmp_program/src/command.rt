@@ -1,0 +1,24 @@
+// The commands of the program.
+ghost use Rattle.std.specs.Prelude.{◌≡◌, map};
+ghost use Rattle.std.specs.String.{string_bytes};
+ghost use Rattle.iopmp_program.specs.Commands.{command_of};
+
+/// What the program is asked to do.
+#[derive(Clone, Copy, Debug, PartialEq, Eq)]
+pub enum Command {
+    /// Plays a script and prints the report of its history.
+    Run,
+    /// Compiles a policy and prints the script of its image.
+    Compile,
+}
+
+/// The command that the words after the program's name are, if they are one.
+pub fn command_in(words: &[String]) -> Option<Command>
+    ensures { result ≡ command_of (map string_bytes words.now) }
+{
+    match words {
+        [word] if word.as_str() == "run" => Some(Command::Run),
+        [word] if word.as_str() == "compile" => Some(Command::Compile),
+        _ => None,
+    }
+}

@@ -1,0 +1,23 @@
+//! The program: a script is read, played by its lanes on one shared log, and the history is printed.
+//!
+//! The definitions of what the program answers stand in `specs/`, one file an idea.
+#![tactic(auto)]
+
+mod command;
+mod compiling;
+#[cfg(test)]
+mod compiling_tests;
+mod fault_line;
+mod memory;
+mod playing;
+mod program;
+mod record;
+mod replay;
+mod reports;
+mod status;
+
+pub use memory::NoMemory;
+pub use playing::play;
+pub use program::top;
+pub use reports::report;
+pub use status::{Outcome, Status};

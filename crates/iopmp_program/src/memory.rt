@@ -1,0 +1,19 @@
+// Want of memory, from whichever call it comes.
+
+use std::alloc::AllocError;
+
+/// There was no memory.
+#[derive(Clone, Copy, Debug, PartialEq, Eq)]
+pub struct NoMemory;
+
+impl From<AllocError> for NoMemory {
+    fn from(_error: AllocError) -> NoMemory {
+        NoMemory
+    }
+}
+
+impl From<unit_core::NoMemory> for NoMemory {
+    fn from(_error: unit_core::NoMemory) -> NoMemory {
+        NoMemory
+    }
+}
