@@ -1,9 +1,8 @@
 // Prints a script.
-ghost use Rattle.std.specs.Prelude.{◌≡◌, ◌++◌, Ok, Some, IfOk, OnOk};
+ghost use Rattle.std.specs.Prelude.{◌≡◌, ◌++◌, Some, IfOk, OnOk};
 ghost use Rattle.std.specs.String.{string_bytes};
 ghost use Rattle.event_words.specs.Texts.{kind_text};
 ghost use Rattle.script_reader.specs.Printed.{translation_text, sps_number, sizes_text, tables_text, requests_text, unit_text, unit_texts, stage_text, access_text, command_text, command_texts, lane_text, lane_texts, script_text};
-ghost use Rattle.script_reader.specs.Scripts.{script_at};
 
 use crate::script::Script;
 use event_words::{Access, Command, Event, Kind, Section, Shape, Stages};
@@ -252,9 +251,9 @@ fn script_string(alloc: Global, script: &Script) -> Result<String, AllocError>
 
 /// The canonical text of a script: one space between words, no comments, offsets, values, masks
 /// and addresses in hexadecimal and other numbers in decimal. The names are `s0`, `s1` and so on,
-/// in the order of a section's submissions. The script must be the one that its text stands for.
+/// in the order of a section's submissions. A script that can't be read has a text too, which then
+/// need not stand for it.
 pub fn print_script(alloc: Global, script: &Script) -> Result<Vec<u8>, NoMemory>
-    requires { script_at (script_text script.now) ≡ Ok script.now }
     ensures { IfOk result (λ text. text.items ≡ script_text script.now) }
 {
     match script_string(alloc, script) {
