@@ -1,6 +1,6 @@
 #!/bin/sh
-# Compares each example's output with the report beside it. Examples with lanes have no one report and
-# are only run.
+# Compares each example's output with the report or the compiled script beside it. Examples with lanes
+# have no one report and are only run.
 top=$(cd "$(dirname "$0")/.." && pwd) || exit 1
 status=0
 for script in "$top"/examples/*.script; do
@@ -14,6 +14,14 @@ for script in "$top"/examples/*.script; do
     fi
   else
     "$top/iopmp" run <"$script" >/dev/null || { echo "example $(basename "$script"): failed"; status=1; }
+  fi
+done
+for policy in "$top"/examples/policies/*.toml; do
+  if "$top/iopmp" compile <"$policy" | cmp -s - "${policy%.toml}.script"; then
+    echo "example $(basename "$policy"): equal"
+  else
+    echo "example $(basename "$policy"): different"
+    status=1
   fi
 done
 exit $status
