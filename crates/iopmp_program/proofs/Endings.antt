@@ -48,10 +48,10 @@ pub refusal_ends : (s : Streams) (bytes : List ℕ) (error : ScriptError) (statu
 refusal_ends s bytes error status history read answers (inl w) = stopped_ends s status history w
 refusal_ends s bytes error status history read answers (inr (line, e, inl w)) =
     along (EndsRun s) status BadInput history None w.status_is w.none
-        (refl, (line, record { bytes = bytes; error = error; read = read; refused = refused_by error line _ e answers; line = e }, w.written))
+    (refl, (line, record { bytes = bytes; error = error; read = read; refused = refused_by error line _ e answers; line = e }, w.written))
 refusal_ends s bytes error status history read answers (inr (line, e, inr w)) =
     along (EndsRun s) status WriteFault history None w.status_is w.none
-        (refl, (line, inr (inl (record { bytes = bytes; error = error; read = read; refused = refused_by error line _ e answers; line = e })), w.written), w.failed)
+    (refl, (line, inr (inl (record { bytes = bytes; error = error; read = read; refused = refused_by error line _ e answers; line = e })), w.written), w.failed)
 
 report_of : (s : Streams) (bytes : List ℕ) (script : ScriptOf) (words text : List ℕ) → WasRead s bytes → reading_of bytes ≡ Ok script → IsRun script words text → IsReport s words text
 report_of s bytes script words text read stands run = record { bytes = bytes; script = script; read = read; stands_for = stands; run = run }
@@ -62,7 +62,7 @@ run_ends s bytes script status history read stands (inl w) =
     along (EndsRun s) status Done history (Some w.words) w.status_is w.some (w.text, report_of s bytes script w.words w.text read stands w.run, w.written)
 run_ends s bytes script status history read stands (inr (inl w)) =
     along (EndsRun s) status WriteFault history None w.stops.status_is w.stops.none
-        (refl, (w.text, inl (w.words, report_of s bytes script w.words w.text read stands w.run), w.stops.written), w.stops.failed)
+    (refl, (w.text, inl (w.words, report_of s bytes script w.words w.text read stands w.run), w.stops.written), w.stops.failed)
 run_ends s bytes script status history read stands (inr (inr w)) = stopped_ends s status history w
 
 -- ---- completeness follows from what each status says

@@ -2,3 +2,4 @@ pub mod Repeats
 pub mod UnitLines
 pub mod Endings
 pub mod ImageEndings
+pub mod Plays

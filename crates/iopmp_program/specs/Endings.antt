@@ -26,8 +26,15 @@ pub record Streams : Type 0 where
 
 abbrev pub streams : Option (List ℕ) → Option (List ℕ) → ℕ → ℕ → Option (List ℕ) → Option (List ℕ) → ℕ → ℕ → Streams
 streams left left' source source' taken taken' sink sink' = record {
-    left_before = left; left_after = left'; source_before = source; source_after = source';
-    taken_before = taken; taken_after = taken'; sink_before = sink; sink_after = sink' }
+  left_before = left;
+  left_after = left';
+  source_before = source;
+  source_after = source';
+  taken_before = taken;
+  taken_after = taken';
+  sink_before = sink;
+  sink_after = sink';
+}
 
 abbrev pub SourceFailed : Streams → Type 0
 SourceFailed s = Rose s.source_before s.source_after

@@ -9,3 +9,4 @@ pub mod Prints
 pub mod PolicyLines
 pub mod Compiles
 pub mod ImageTexts
+pub mod Plays

@@ -3,10 +3,12 @@
 //! The definitions of what the program answers stand in `specs/`, one file an idea.
 #![tactic(auto)]
 
+mod budgets;
 mod command;
 mod compiling;
 #[cfg(test)]
 mod compiling_tests;
+mod copies;
 mod fault_line;
 mod memory;
 mod playing;
@@ -15,6 +17,10 @@ mod record;
 mod replay;
 mod reports;
 mod status;
+#[cfg(test)]
+mod test_rows;
+#[cfg(test)]
+mod tests;
 
 pub use memory::NoMemory;
 pub use playing::play;

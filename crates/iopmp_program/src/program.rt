@@ -19,6 +19,7 @@ use crate::fault_line::{refusal_line, too_long_line, usage_line};
 use crate::playing::play;
 use crate::reports::report;
 use crate::status::{Outcome, Status};
+use checker_workers::Gate;
 use edge_io::{ReadError, Sink, Source, read_all, write_all};
 use history_laws::law_kept;
 use script_reader::{Script, ScriptError, read_script};
@@ -37,7 +38,7 @@ struct Run {
 }
 
 /// Plays the script and writes its report, before any of it is printed.
-fn run_script<R: Threads + Sync, G: Sync>(
+fn run_script<R: Threads + Sync, G: Gate + Sync>(
     rt: &R,
     alloc: Global,
     script: &Script,
@@ -83,7 +84,7 @@ fn refuse_input<K: Sink>(sink: &mut K, alloc: Global, error: &ScriptError) -> Ou
 }
 
 /// Runs the script and prints the report of its history.
-fn print_run<R: Threads + Sync, K: Sink, G: Sync>(
+fn print_run<R: Threads + Sync, K: Sink, G: Gate + Sync>(
     rt: &R,
     alloc: Global,
     script: &Script,
@@ -108,7 +109,7 @@ fn print_run<R: Threads + Sync, K: Sink, G: Sync>(
 }
 
 /// The command `run`.
-fn run_command<R: Threads + Sync, S: Source, K: Sink, G: Sync>(
+fn run_command<R: Threads + Sync, S: Source, K: Sink, G: Gate + Sync>(
     rt: &R,
     alloc: Global,
     source: &mut S,
@@ -132,7 +133,7 @@ fn run_command<R: Threads + Sync, S: Source, K: Sink, G: Sync>(
 }
 
 /// Does all that the program does. `words` are those after the program's name.
-pub fn top<R: Threads + Sync, S: Source, K: Sink, G: Sync>(
+pub fn top<R: Threads + Sync, S: Source, K: Sink, G: Gate + Sync>(
     rt: &R,
     alloc: Global,
     words: &[String],

@@ -180,7 +180,11 @@ impl<'a> Events<'a> {
     fn nothing_left(&self, end: SectionEnd) -> Option<SectionEnd>
         ensures { result ≡ nothing_left end self.now }
     {
-        if self.left.is_empty() { Some(end) } else { None }
+        if self.left.is_empty() {
+            Some(end)
+        } else {
+            None
+        }
     }
 }
 

@@ -89,7 +89,10 @@ fn push_unit(out: &mut String, unit: u8, words: [u32; 4]) -> Result<(), AllocErr
     ensures { OnOk result (string_bytes out.new ≡ string_bytes out.old ++ unit_line_of unit words) }
 {
     let [info, addr, addrh, id] = words;
-    write!(out, "unit {unit} 0x{info:x} 0x{addr:x} 0x{addrh:x} 0x{id:x}\n")
+    write!(
+        out,
+        "unit {unit} 0x{info:x} 0x{addr:x} 0x{addrh:x} 0x{id:x}\n"
+    )
 }
 
 fn push_units(out: &mut String, units: &Fabric) -> Result<(), AllocError>

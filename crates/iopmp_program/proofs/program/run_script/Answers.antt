@@ -10,5 +10,5 @@ pub returns : goal.returns
 returns g c = record {
   legal = c.in_ok-history.ensures;
   laws = c.law_kept.ensures (history_of c.args.script.now.shapes c.in_ok-history.history) (All-from_recursion IsValidShape c.args.script.now.shapes c.requires.formed.shapes);
-  printed = c.in_ok-text.ensures ∙ ap (report_text c.args.script.now.shapes c.args.script.now.boot c.args.script.now.lanes) c.words.ensures
+  printed = c.in_ok-text.ensures ∙ ap (report_text c.args.script.now.shapes c.args.script.now.boot c.args.script.now.lanes) c.words.ensures;
 }

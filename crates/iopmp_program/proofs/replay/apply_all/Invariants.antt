@@ -10,5 +10,5 @@ invariant-loop-place l = record {
   places : l.units.places ≡ length l.words;
   events : l.events.items ++ logged_from state_after_word reply_to_word l.place l.units.units (drop l.place l.words)
       ≡ logged_from state_after_word reply_to_word 0 l.fn.units.units l.words;
-  units : run_from state_after_word l.place l.units.units (drop l.place l.words) ≡ run_from state_after_word 0 l.fn.units.units l.words
+  units : run_from state_after_word l.place l.units.units (drop l.place l.words) ≡ run_from state_after_word 0 l.fn.units.units l.words;
 }
