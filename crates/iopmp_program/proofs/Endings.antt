@@ -1,7 +1,6 @@
 -- How the parts of the program end is how the program ends.
-use Rattle.std.proofs.Common.{◌≡◌, ◌⊎◌, ℕ, ◌<◌, ◌≤◌, List, length, Option, Some, None, Ok, Err, IfSome, IsSomeAnd, refl, sym, ap, subst, inl, inr, ◌∙◌, length-append, arith}
-use Rattle.std.specs.Io.KnownBytes.{Appends, Keeps, Consumes}
-use Rattle.edge_io.specs.Streams.{TakesFront}
+use Rattle.std.proofs.Common.{◌≡◌, ℕ, ◌<◌, ◌≤◌, List, length, Option, Some, None, Ok, Err, IfSome, refl, sym, ap, subst, inl, inr, ◌∙◌, length-append, arith}
+use Rattle.std.specs.Io.KnownBytes.{Consumes}
 use Rattle.std.specs.declared.result.Result.{Result}
 use Rattle.script_reader.specs.declared.script.ScriptError.{ScriptError}
 use Rattle.script_reader.specs.declared.script.ScriptError.TheVariants.{BadLine, TooManyEvents}
@@ -12,8 +11,8 @@ use Rattle.iopmp_program.specs.declared.status.Status.{Status}
 use Rattle.iopmp_program.specs.declared.status.Status.TheVariants.{Done, Usage, BadInput, ReadFault, WriteFault, NoMemory, TooLong}
 use Rattle.iopmp_program.specs.FaultLines.{usage_line, refusal_line}
 use Rattle.iopmp_program.specs.Runs.{IsRun}
-use Rattle.iopmp_program.specs.Endings.{Streams, WasRead, IsReport, IsRefusal, IsTooLong, IsAnswer, EndsUsage, EndsRun, HasScript, SourceFailed, SinkFailed, CompletesRun}
-use Rattle.iopmp_program.specs.Prints.{SinkChange, sink_change, WritesLine, StopsInLine, HasNoMemory, Refuses, RefusesInput, WritesReport, StopsInReport, Reports}
+use Rattle.iopmp_program.specs.Endings.{Streams, WasRead, IsReport, IsRefusal, IsTooLong, EndsUsage, EndsRun, HasScript, CompletesRun}
+use Rattle.iopmp_program.specs.Prints.{SinkChange, sink_change, HasNoMemory, Refuses, RefusesInput, Reports}
 
 -- what of the streams is the sink's
 abbrev pub sink_of : Streams → SinkChange

@@ -3,3 +3,4 @@ pub mod UnitLines
 pub mod Endings
 pub mod ImageEndings
 pub mod Plays
+pub mod PlainSections

@@ -1,5 +1,5 @@
 -- Lanes that play the sections of a script make a legal history.
-use Rattle.std.proofs.Common.{◌≡◌, ◌≢◌, ℕ, suc, zero, ◌+◌, ◌<◌, ◌≤◌, List, [], ◌∷◌, ◌++◌, length, map, get_or, refl, sym, ap, ◌∙◌, subst, arith, add-one, add-zero, zero-add, Some, Option, lt_of_not-le, ◌*◌, ◌/◌, max, take, length-append}
+use Rattle.std.proofs.Common.{◌≡◌, ℕ, suc, ◌+◌, ◌<◌, ◌≤◌, List, [], ◌∷◌, ◌++◌, length, map, get_or, refl, sym, ap, ◌∙◌, subst, arith, add-one, zero-add, Some, Option, lt_of_not-le, ◌/◌, max, take, length-append}
 use Rattle.std.proofs.Math.ListN.{get_or-append}
 use Rattle.std.proofs.Math.Seq.{get_or-append_seam, take-suc, length-take-le}
 use Rattle.std.proofs.Math.Nat.{mul-div_cancel_left}
@@ -17,7 +17,7 @@ use Rattle.unit_core.specs.Units.{UnitState, unit_at_reset}
 use Rattle.unit_core.specs.Fabrics.{FabricState, state_after_word, reply_to_word}
 use Rattle.unit_core.specs.Histories.{IsBoot, IsOfLane, BootComesFirst, HasRecord, HaveRecords, IsLegalHistory, logged_in}
 use Rattle.shared_log.specs.Words.{words_by, AllEventWords}
-use Rattle.shared_log.specs.Callers.{SharedView, CallerView, Belongs}
+use Rattle.shared_log.specs.Callers.{SharedView, Belongs}
 use Rattle.shared_log.specs.Histories.{HoldsCaller}
 use Rattle.shared_log.proofs.WordLists.{words-append, append-none-right}
 use Rattle.shared_log.proofs.Counting.{words-own, words-other}

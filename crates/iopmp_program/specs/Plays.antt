@@ -1,5 +1,5 @@
 -- Callers that play the sections of a script.
-use Rattle.std.specs.Prelude.{◌≡◌, ℕ, ◌+◌, ◌<◌, ◌≤◌, List, [], length, map, slice_index_or}
+use Rattle.std.specs.Prelude.{◌≡◌, ℕ, ◌+◌, ◌<◌, ◌≤◌, List, [], length, slice_index_or}
 use Rattle.std.specs.List.{AllByRecursion}
 use Rattle.event_words.specs.declared.shape.Shape.{Shape}
 use Rattle.event_words.specs.Sections.{SectionOf, IsValidSection, NamesOnlyUnits, events_of}
@@ -7,10 +7,9 @@ use Rattle.event_words.specs.Runs.{logged}
 use Rattle.unit_core.specs.Units.{UnitState}
 use Rattle.unit_core.specs.Fabrics.{FabricState, state_after_word, reply_to_word, opening}
 use Rattle.unit_core.specs.Histories.{HasRecord}
-use Rattle.shared_log.specs.Callers.{SharedView, CallerView, Belongs}
-use Rattle.shared_log.specs.Words.{words_by}
+use Rattle.shared_log.specs.Callers.{SharedView, Belongs}
 use Rattle.checker_workers.specs.declared.lane.LaneEnd.TheVariants.{Fresh}
-use Rattle.checker_workers.specs.Ports.{PortView, AreAtReset, unit_count, own_events}
+use Rattle.checker_workers.specs.Ports.{PortView, AreAtReset, own_events}
 use Rattle.checker_workers.specs.Lanes.{LaneView, HasNoThrough, Runs}
 
 abbrev pub IsOpened : List Shape → ℕ → FabricState → Type 0

@@ -1,12 +1,12 @@
-// How many events each caller may make, and which scripts lanes can play.
-ghost use Rattle.std.specs.Prelude.{◌≡◌, ◌+◌, ◌*◌, ◌≤◌, length, false};
+// How many events each caller may make, and that lanes can play what was read.
+ghost use Rattle.std.specs.Prelude.{◌+◌, ◌*◌, ◌≤◌, length};
 ghost use Rattle.std.specs.List.{AllByRecursion};
 ghost use Rattle.event_words.specs.Sections.{events_of};
 ghost use Rattle.script_reader.specs.Scripts.{IsWellFormedScript, need_of};
-ghost use Rattle.checker_workers.specs.Lanes.{HasNoThrough, IsPlain, is_through};
+ghost use Rattle.script_reader.specs.Plain.{IsPlainScript};
+ghost use Rattle.checker_workers.specs.Lanes.{HasNoThrough};
 ghost use Rattle.iopmp_program.specs.Plays.{HasAtMost};
 
-use event_words::{Command, Section};
 use script_reader::Script;
 
 /// The most events of a section, at least 1.
@@ -22,38 +22,11 @@ pub fn budget(script: &Script) -> u32
     (script.need() / callers) as u32
 }
 
-fn is_through(command: &Command) -> bool
-    ensures { result ≡ is_through command.now }
+/// A script that sends no access through units has sections that lanes can play.
+pub fn sections_are_plain(script: &Script)
+    requires { IsPlainScript script.now }
+    ensures boot { HasNoThrough script.now.boot }
+    ensures lanes { AllByRecursion HasNoThrough script.now.lanes }
 {
-    match command {
-        Command::Through { .. } => true,
-        _ => false,
-    }
-}
-
-fn section_has_through(section: &Section) -> bool
-    ensures { result ≡ false → HasNoThrough section.now }
-{
-    for command in &section.commands {
-        if is_through(command) {
-            return true;
-        }
-    }
-    false
-}
-
-/// Whether some section sends an access through units.
-pub fn has_through(script: &Script) -> bool
-    ensures boot { result ≡ false → HasNoThrough script.now.boot }
-    ensures lanes { result ≡ false → AllByRecursion HasNoThrough script.now.lanes }
-{
-    if section_has_through(&script.boot) {
-        return true;
-    }
-    for lane in &script.lanes {
-        if section_has_through(lane) {
-            return true;
-        }
-    }
-    false
+    let _ = script;
 }

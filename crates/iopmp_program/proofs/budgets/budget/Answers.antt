@@ -1,8 +1,8 @@
 -- The need, divided by the number of callers, is the most events of a section.
-use Rattle.std.proofs.Common.{◌≡◌, ◌+◌, ◌≤◌, max, length, sym, ap, subst, ◌∙◌, arith}
+use Rattle.std.proofs.Common.{max, length, sym, ap, subst, ◌∙◌, arith}
 use Rattle.std.specs.List.{AllByRecursion}
 use Rattle.std.proofs.lemmas.Grind.{common_steps}
-use Rattle.event_words.specs.Sections.{SectionOf, events_of}
+use Rattle.event_words.specs.Sections.{events_of}
 use Rattle.script_reader.specs.Scripts.{ScriptOf}
 use Rattle.iopmp_program.specs.Plays.{HasAtMost}
 use Rattle.iopmp_program.proofs.Plays.{at_least, each_within, shared_need}

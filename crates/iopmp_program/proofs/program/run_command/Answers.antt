@@ -1,5 +1,5 @@
 -- How the parts end is how the command ends.
-use Rattle.std.proofs.Common.{◌≡◌, ◌∙◌, Err, ap, subst}
+use Rattle.std.proofs.Common.{◌∙◌, Err, ap, subst}
 use Rattle.script_reader.specs.Answers.{reading_of, Answers}
 use Rattle.iopmp_program.proofs.Endings.{too_long_ends, refusal_ends}
 use Rattle.iopmp_program.proofs.program.run_command.Goals as goal

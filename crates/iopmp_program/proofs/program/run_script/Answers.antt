@@ -1,5 +1,5 @@
 -- The history is legal, every history keeps the laws, and the text is its report.
-use Rattle.std.proofs.Common.{◌≡◌, ◌∙◌, ap}
+use Rattle.std.proofs.Common.{◌∙◌, ap}
 use Rattle.std.proofs.lemmas.List.Elements.{All-from_recursion}
 use Rattle.unit_core.specs.Histories.{history_of}
 use Rattle.unit_core.specs.Reports.{report_text}

@@ -1,6 +1,6 @@
 -- One judgement more, and those that are left.
-use Rattle.std.proofs.Common.{◌≡◌, ◌-◌, sym, ◌∙◌, arith}
-use Rattle.iopmp_program.proofs.Repeats.{judgements_on, judgements_end}
+use Rattle.std.proofs.Common.{◌-◌, sym, ◌∙◌, arith}
+use Rattle.iopmp_program.proofs.Repeats.{judgements_on}
 use Rattle.iopmp_program.proofs.record.Events.judgements.Goals as goal
 
 pub loop-after-preserved : goal.loop-after-preserved

@@ -1,5 +1,5 @@
 -- One read more, and those that are left.
-use Rattle.std.proofs.Common.{◌≡◌, ◌-◌, sym, ◌∙◌, arith}
+use Rattle.std.proofs.Common.{◌-◌, sym, ◌∙◌, arith}
 use Rattle.iopmp_program.proofs.Repeats.{polls_on}
 use Rattle.iopmp_program.proofs.record.Events.polls.Goals as goal
 
