@@ -10,6 +10,10 @@ mod compiling;
 mod compiling_tests;
 mod copies;
 mod fault_line;
+#[cfg(test)]
+mod lane_tests;
+#[cfg(test)]
+mod layer_tests;
 mod memory;
 mod playing;
 mod program;

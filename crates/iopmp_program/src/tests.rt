@@ -11,22 +11,22 @@ use std::thread::Threads;
 
 /// Which call of a stream fails, if one does, and how many bytes a call moves.
 #[derive(Clone, Copy)]
-struct Faults {
+pub struct Faults {
     read: Option<u32>,
     write: Option<u32>,
     chunk: usize,
 }
 
-const NONE: Faults = Faults {
+pub const NONE: Faults = Faults {
     read: None,
     write: None,
     chunk: 4096,
 };
 
 #[derive(Drop)]
-struct Ended {
-    outcome: Outcome,
-    taken: Vec<u8>,
+pub struct Ended {
+    pub outcome: Outcome,
+    pub taken: Vec<u8>,
 }
 
 fn numbers(alloc: Global, number: Option<u32>) -> Result<Vec<u32>, Fail> {
@@ -37,7 +37,7 @@ fn numbers(alloc: Global, number: Option<u32>) -> Result<Vec<u32>, Fail> {
     Ok(numbers)
 }
 
-fn called<R: Threads + Sync + AllocGlobal, G: Gate + Sync>(
+pub fn called<R: Threads + Sync + AllocGlobal, G: Gate + Sync>(
     rt: &R,
     words: &[&str],
     input: Vec<u8>,
@@ -51,7 +51,7 @@ fn called<R: Threads + Sync + AllocGlobal, G: Gate + Sync>(
         strings.push(String::from_str(alloc, word)?)?;
     }
     let mut source = MemorySource::new(input, numbers(alloc, faults.read)?, chunk);
-    let Ok(mut sink) = MemorySink::new(alloc, 8388608, numbers(alloc, faults.write)?, chunk) else {
+    let Ok(mut sink) = MemorySink::new(alloc, 33554432, numbers(alloc, faults.write)?, chunk) else {
         return Err(Fail::new("no memory"));
     };
     let outcome = top(rt, alloc, &strings, &mut source, &mut sink, gate);
@@ -59,7 +59,7 @@ fn called<R: Threads + Sync + AllocGlobal, G: Gate + Sync>(
     Ok(Ended { outcome, taken })
 }
 
-fn has(text: &[u8], part: &[u8]) -> bool {
+pub fn has(text: &[u8], part: &[u8]) -> bool {
     part.is_empty() || text.windows(part.len().max(1)).any(|window| window == part)
 }
 
