@@ -1,27 +1,26 @@
 #!/bin/sh
-# Compares each example's output with the report or the compiled script beside it. Examples with lanes
-# have no one report and are only run.
+# Runs the program on each example, before any proof, and compares what it writes with the report or the
+# compiled script beside it. A script with lanes has no one report and only has to end. The last line of
+# each of the two runs counts the cases; the status is 0 where none differs.
 top=$(cd "$(dirname "$0")/.." && pwd) || exit 1
-status=0
+folder=$(mktemp -d) || exit 1
+trap 'rm -rf "$folder"' EXIT
+mkdir "$folder/run" "$folder/compile"
 for script in "$top"/examples/*.script; do
-  report=${script%.script}.report
-  if [ -f "$report" ]; then
-    if "$top/iopmp" run <"$script" | cmp -s - "$report"; then
-      echo "example $(basename "$script"): equal"
-    else
-      echo "example $(basename "$script"): different"
-      status=1
-    fi
-  else
-    "$top/iopmp" run <"$script" >/dev/null || { echo "example $(basename "$script"): failed"; status=1; }
+  name=$(basename "$script" .script)
+  cp "$script" "$folder/run/$name"
+  if [ -f "$top/examples/$name.report" ]; then
+    cp "$top/examples/$name.report" "$folder/run/$name.stdout"
   fi
 done
 for policy in "$top"/examples/policies/*.toml; do
-  if "$top/iopmp" compile <"$policy" | cmp -s - "${policy%.toml}.script"; then
-    echo "example $(basename "$policy"): equal"
-  else
-    echo "example $(basename "$policy"): different"
-    status=1
-  fi
+  name=$(basename "$policy" .toml)
+  cp "$policy" "$folder/compile/$name"
+  cp "${policy%.toml}.script" "$folder/compile/$name.stdout"
+done
+cd "$top/crates/iopmp" || exit 1
+status=0
+for word in run compile; do
+  rt try --cases "$folder/$word" -- "$word" >/dev/null || status=1
 done
 exit $status

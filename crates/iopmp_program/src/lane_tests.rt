@@ -82,7 +82,7 @@ fn an_update_runs_under_traffic(rt: HostRuntime) -> Result<(), Fail> {
         return Err(Fail::new("no script"));
     };
     let input = bytes.to_vec(alloc)?;
-    let ended = called(&rt, &["run"], input, NONE, &FreeGate)?;
+    let ended = called(&rt, "run", input, NONE, &FreeGate)?;
     assert_eq!(rt; ended.outcome.status, Status::Done);
     let Some(history) = &ended.outcome.history else {
         return Err(Fail::new("no history"));
@@ -111,7 +111,7 @@ fn lanes_see_each_other(rt: HostRuntime) -> Result<(), Fail> {
     for _turn in 0..1000u32 {
         if !met {
             let input = text.as_bytes().to_vec(alloc)?;
-            let ended = called(&rt, &["run"], input, NONE, &FreeGate)?;
+            let ended = called(&rt, "run", input, NONE, &FreeGate)?;
             assert_eq!(rt; ended.outcome.status, Status::Done);
             met = has(
                 &ended.taken,
@@ -134,7 +134,7 @@ fn the_longest_section_is_played(rt: HostRuntime) -> Result<(), Fail> {
     }
     text.push_str("settle a max 4091\nend\n")?;
     let input = text.as_bytes().to_vec(alloc)?;
-    let ended = called(&rt, &["run"], input, NONE, &FreeGate)?;
+    let ended = called(&rt, "run", input, NONE, &FreeGate)?;
     assert_eq!(rt; ended.outcome.status, Status::Done);
     assert!(rt; ended.taken.starts_with("events 1048576\n".as_bytes()));
     assert!(rt;
