@@ -39,7 +39,7 @@ fn numbers(alloc: Global, number: Option<u32>) -> Result<Vec<u32>, Fail> {
 
 fn called<R: Threads + Sync + AllocGlobal, G: Gate + Sync>(
     rt: &R,
-    words: &[&str],
+    words: &str,
     input: Vec<u8>,
     faults: Faults,
     gate: &G,
@@ -47,7 +47,7 @@ fn called<R: Threads + Sync + AllocGlobal, G: Gate + Sync>(
     let alloc = rt.alloc();
     let chunk = faults.chunk.max(1);
     let mut strings = Vec::new(alloc);
-    for word in words {
+    for word in words.split_whitespace() {
         strings.push(String::from_str(alloc, word)?)?;
     }
     let mut source = MemorySource::new(input, numbers(alloc, faults.read)?, chunk);
@@ -69,7 +69,7 @@ fn scripts_are_run(rt: HostRuntime) -> Result<(), Fail> {
         let unit = row.unit;
         let commands = row.commands;
         let text = format!(in rt.alloc(); "iopmp 1\n{unit}\nboot\n{commands}end\n")?;
-        let ended = called(&rt, &["run"], text.into_bytes(), NONE, &FreeGate)?;
+        let ended = called(&rt, "run", text.into_bytes(), NONE, &FreeGate)?;
         assert_eq!(rt; ended.outcome.status, Status::Done, "{}", row.shows);
         assert!(rt; ended.outcome.history.is_some());
         for part in row.parts {
@@ -79,113 +79,61 @@ fn scripts_are_run(rt: HostRuntime) -> Result<(), Fail> {
     Ok(())
 }
 
-/// Words and an input, how the program ends, and what it writes.
-#[derive(Clone, Copy)]
-struct Answer {
-    words: &'static [&'static str],
-    /// What stands after `iopmp 1`, the unit line and `boot`, or instead of all of it.
-    input: &'static str,
-    whole: bool,
-    faults: Faults,
-    status: Status,
-    taken: &'static str,
-}
-
 const USAGE: &str = "iopmp: usage: iopmp run | compile | plan | live | gen N | soak N\n";
 
 const EMPTY_REPORT: &str = "events 0\nsection 0 done\nunit 0 0x0 0x0 0x0 0x0\nend\n";
 
-/// The command `run` on a script with these commands and without faults, which is refused.
-fn refused(commands: &'static str, taken: &'static str) -> Answer {
-    Answer {
-        words: &["run"],
-        input: commands,
-        whole: false,
-        faults: NONE,
-        status: Status::BadInput,
-        taken,
-    }
-}
+const BAD_WRITE: Faults = Faults {
+    read: None,
+    write: Some(0),
+    chunk: 4096,
+};
 
-fn answers() -> [Answer; 9] {
-    [
-        Answer {
-            status: Status::Done,
-            ..refused("end\n", EMPTY_REPORT)
-        },
-        Answer {
-            words: &["run", "now"],
-            status: Status::Usage,
-            ..refused("end\n", USAGE)
-        },
-        Answer {
-            words: &[],
-            status: Status::Usage,
-            ..refused("end\n", USAGE)
-        },
-        Answer {
-            whole: true,
-            ..refused("", "iopmp: line 1 code 2\n")
-        },
-        refused("", "iopmp: line 4 code 3\n"),
-        refused(
-            "w 0 0x800 0x8\nw 0 0x1060 0x2\nw 0 0x8 0x1\nw 0 0x2000 0xffffffff\nw 0 0x2004 0xffffffff\nw 0 0x2008 0x19\nt 0 3 r 0xffffffffff 2 as a\nj a\nend\n",
-            "iopmp: line 10 code 6\n",
-        ),
-        Answer {
-            faults: Faults {
-                write: Some(1),
-                chunk: 4,
-                ..NONE
-            },
-            status: Status::WriteFault,
-            ..refused("end\n", "even")
-        },
-        Answer {
-            faults: Faults {
-                read: Some(0),
-                ..NONE
-            },
-            status: Status::ReadFault,
-            ..refused("end\n", "")
-        },
-        Answer {
-            faults: Faults {
-                write: Some(0),
-                ..NONE
-            },
-            status: Status::WriteFault,
-            ..refused("", "")
-        },
-    ]
-}
+const SECOND_WRITE: Faults = Faults {
+    read: None,
+    write: Some(1),
+    chunk: 4,
+};
+
+const BAD_READ: Faults = Faults {
+    read: Some(0),
+    write: None,
+    chunk: 4096,
+};
+
+/// The words, what stands after `iopmp 1`, the unit line and `boot` of the input, which calls fail,
+/// how the program ends, and what it writes.
+const ANSWERS: [(&str, &str, Faults, Status, &str); 8] = [
+    ("run", "end\n", NONE, Status::Done, EMPTY_REPORT),
+    ("run now", "end\n", NONE, Status::Usage, USAGE),
+    ("", "end\n", NONE, Status::Usage, USAGE),
+    ("run", "", NONE, Status::BadInput, "iopmp: line 4 code 3\n"),
+    (
+        "run",
+        "w 0 0x800 0x8\nw 0 0x1060 0x2\nw 0 0x8 0x1\nw 0 0x2000 0xffffffff\nw 0 0x2004 0xffffffff\nw 0 0x2008 0x19\nt 0 3 r 0xffffffffff 2 as a\nj a\nend\n",
+        NONE,
+        Status::BadInput,
+        "iopmp: line 10 code 6\n",
+    ),
+    ("run", "end\n", SECOND_WRITE, Status::WriteFault, "even"),
+    ("run", "end\n", BAD_READ, Status::ReadFault, ""),
+    ("run", "", BAD_WRITE, Status::WriteFault, ""),
+];
 
 #[test]
 fn each_status_comes(rt: HostRuntime) -> Result<(), Fail> {
     let alloc = rt.alloc();
-    for answer in answers() {
-        let input = answer.input;
-        let text = if answer.whole {
-            String::from_str(alloc, input)?
-        } else {
-            format!(in alloc; "iopmp 1\n{UNIT}\nboot\n{input}")?
-        };
-        let ended = called(
-            &rt,
-            answer.words,
-            text.into_bytes(),
-            answer.faults,
-            &FreeGate,
-        )?;
-        assert_eq!(rt; ended.outcome.status, answer.status, "{}", answer.taken);
-        assert_eq!(rt; ended.taken.as_slice(), answer.taken.as_bytes());
-        assert_eq!(rt;
-            ended.outcome.history.is_some(),
-            answer.status == Status::Done
-        );
+    for (words, commands, faults, status, taken) in ANSWERS {
+        let text = format!(in alloc; "iopmp 1\n{UNIT}\nboot\n{commands}")?;
+        let ended = called(&rt, words, text.into_bytes(), faults, &FreeGate)?;
+        assert_eq!(rt; ended.outcome.status, status, "{taken}");
+        assert_eq!(rt; ended.taken.as_slice(), taken.as_bytes());
+        assert_eq!(rt; ended.outcome.history.is_some(), status == Status::Done);
     }
+    let ended = called(&rt, "run", Vec::new(alloc), NONE, &FreeGate)?;
+    assert_eq!(rt; ended.taken.as_slice(), "iopmp: line 1 code 2\n".as_bytes());
     let long = Vec::from_elem(alloc, b' ', 4194305)?;
-    let ended = called(&rt, &["run"], long, NONE, &FreeGate)?;
+    let ended = called(&rt, "run", long, NONE, &FreeGate)?;
     assert_eq!(rt; ended.outcome.status, Status::TooLong);
     assert_eq!(rt;
         ended.taken.as_slice(),
@@ -252,7 +200,7 @@ fn lanes_run_beside_each_other(rt: HostRuntime) -> Result<(), Fail> {
         "iopmp 1\n{UNIT}\nboot\nlane 1\nr 0 0x8\nr 0 0x8\nlane 2\nr 0 0x8\nr 0 0x8\nend\n"
     )?;
     let gate = Meeting::new();
-    let ended = called(&rt, &["run"], text.as_bytes().to_vec(alloc)?, NONE, &gate)?;
+    let ended = called(&rt, "run", text.as_bytes().to_vec(alloc)?, NONE, &gate)?;
     assert_eq!(rt; ended.outcome.status, Status::Done);
     assert!(rt; gate.took_place());
     assert!(rt;
@@ -306,7 +254,7 @@ fn the_first_bad_line_is_named(rt: HostRuntime) -> Result<(), Fail> {
     let alloc = rt.alloc();
     for (commands, line, code) in BAD_LINES {
         let text = format!(in alloc; "iopmp 1\n{UNIT}\nboot\n{commands}end\n")?;
-        let ended = called(&rt, &["run"], text.into_bytes(), NONE, &FreeGate)?;
+        let ended = called(&rt, "run", text.into_bytes(), NONE, &FreeGate)?;
         let output = format!(in alloc; "iopmp: line {line} code {code}\n")?;
         assert_eq!(rt; ended.outcome.status, Status::BadInput, "{commands}");
         assert_eq!(rt; ended.taken.as_slice(), output.as_bytes());
@@ -336,7 +284,7 @@ fn largest_script(alloc: Global, more: &str) -> Result<String, Fail> {
 fn lanes_give_up(rt: HostRuntime) -> Result<(), Fail> {
     let alloc = rt.alloc();
     let text = largest_script(alloc, "")?;
-    let ended = called(&rt, &["run"], text.into_bytes(), NONE, &FreeGate)?;
+    let ended = called(&rt, "run", text.into_bytes(), NONE, &FreeGate)?;
     assert_eq!(rt; ended.outcome.status, Status::Done);
     assert!(rt; ended.taken.starts_with("events 65536\n".as_bytes()));
     assert!(rt;
@@ -346,7 +294,7 @@ fn lanes_give_up(rt: HostRuntime) -> Result<(), Fail> {
         )
     );
     let text = largest_script(alloc, "r 0 0x8\n")?;
-    let ended = called(&rt, &["run"], text.into_bytes(), NONE, &FreeGate)?;
+    let ended = called(&rt, "run", text.into_bytes(), NONE, &FreeGate)?;
     assert_eq!(rt;
         ended.taken.as_slice(),
         "iopmp: need 1048592 of 1048576 events\n".as_bytes()
@@ -354,7 +302,7 @@ fn lanes_give_up(rt: HostRuntime) -> Result<(), Fail> {
     let text = format!(in alloc;
         "iopmp 1\n{UNIT}\nboot\nw 0 0x800 0x8\nw 0 0x1060 0x2\nw 0 0x8 0x1\nw 0 0x30 0x1\nlane 1\nt 0 3 r 0x0 4 as a\nj a\nlane 2\nuntil 0 0x30 0x1 0x1 max 2\nr 0 0x8\nend\n"
     )?;
-    let ended = called(&rt, &["run"], text.into_bytes(), NONE, &FreeGate)?;
+    let ended = called(&rt, "run", text.into_bytes(), NONE, &FreeGate)?;
     assert!(rt; ended.taken.starts_with("events 8\n".as_bytes()));
     assert!(rt;
         has(
