@@ -15,3 +15,4 @@ pub mod WordHistories
 pub mod LoggedTests
 pub mod TicketReplies
 pub mod Examples
+pub mod LengthLaw

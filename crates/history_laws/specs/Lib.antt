@@ -5,3 +5,4 @@ pub mod Tickets
 pub mod Verdicts
 pub mod Busy
 pub mod Laws
+pub mod Lengths

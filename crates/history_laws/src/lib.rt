@@ -10,6 +10,7 @@ ghost use Rattle.history_laws.specs.Guards.{LawGuards};
 ghost use Rattle.history_laws.specs.Tickets.{LawTickets};
 ghost use Rattle.history_laws.specs.Verdicts.{LawVerdicts};
 ghost use Rattle.history_laws.specs.Laws.{LawKept};
+ghost use Rattle.history_laws.specs.Lengths.{LawLengths};
 
 /// In every state each queued submission has a known, stalled requester, and a queue has at most its
 /// size.
@@ -43,4 +44,9 @@ pub fn law_verdicts()
 /// the queue is full, and guarded bits that never change.
 pub fn law_kept()
     ensures { LawKept }
+{}
+
+/// No whole record of a section is longer than the most events that its commands make.
+pub fn law_lengths()
+    ensures { LawLengths }
 {}
