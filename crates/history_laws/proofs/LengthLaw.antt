@@ -1,5 +1,5 @@
 -- No whole record is longer than the most events of its section: piece by piece.
-use Rattle.std.proofs.Common.{◌≡◌, ℕ, zero, suc, ◌+◌, ◌*◌, ◌<◌, ◌≤◌, Bool, true, false, not, if◌then◌else◌, List, [], ◌∷◌, Option, Some, None, length, take, sum_by, arith}
+use Rattle.std.proofs.Common.{◌≡◌, ℕ, zero, suc, ◌+◌, ◌*◌, ◌≤◌, Bool, true, false, not, if◌then◌else◌, List, [], ◌∷◌, Option, Some, None, length, take, sum_by, arith}
 use Rattle.std.specs.Prelude.{IfSome, nat_lt, ◌&&◌}
 use Rattle.std.proofs.lemmas.List.Sums.{sum_by-cons}
 use Rattle.event_words.specs.declared.access.Access.{Access}
@@ -12,7 +12,7 @@ use Rattle.event_words.specs.declared.record.SectionEnd.TheVariants.{Done, Stopp
 use Rattle.event_words.specs.declared.section.Command.{Command}
 use Rattle.event_words.specs.declared.section.Command.TheVariants.{Write, Read, Submit, Judge, Settle, Until, Through}
 use Rattle.event_words.specs.Events.{same_event}
-use Rattle.event_words.specs.Sections.{SectionOf, most_events, stage_units}
+use Rattle.event_words.specs.Sections.{most_events, stage_units}
 use Rattle.event_words.specs.Records.{OpenSlot, Cut, first_as, judgements, polls, is_held, is_taken, hits, one_piece, submit_piece, settled, settle_piece, until_piece, next_requester, stage_following, stage_judged, stage_piece, through_stages, through_piece, piece, nothing_left, after_piece, end_from, slot_of}
 use Rattle.history_laws.specs.Lengths.{LawLengths}
 

@@ -16,3 +16,5 @@ pub mod LoggedTests
 pub mod TicketReplies
 pub mod Examples
 pub mod LengthLaw
+pub mod OneRecord
+pub mod OneHistoryLaw

@@ -6,3 +6,4 @@ pub mod Verdicts
 pub mod Busy
 pub mod Laws
 pub mod Lengths
+pub mod OneHistory

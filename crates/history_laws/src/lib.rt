@@ -11,6 +11,7 @@ ghost use Rattle.history_laws.specs.Tickets.{LawTickets};
 ghost use Rattle.history_laws.specs.Verdicts.{LawVerdicts};
 ghost use Rattle.history_laws.specs.Laws.{LawKept};
 ghost use Rattle.history_laws.specs.Lengths.{LawLengths};
+ghost use Rattle.history_laws.specs.OneHistory.{LawOneHistory};
 
 /// In every state each queued submission has a known, stalled requester, and a queue has at most its
 /// size.
@@ -49,4 +50,9 @@ pub fn law_kept()
 /// No whole record of a section is longer than the most events that its commands make.
 pub fn law_lengths()
     ensures { LawLengths }
+{}
+
+/// A script without lanes has one legal history.
+pub fn law_one_history()
+    ensures { LawOneHistory }
 {}
