@@ -22,7 +22,7 @@ use crate::reports::report;
 use crate::status::{Outcome, Status};
 use checker_workers::Gate;
 use edge_io::{ReadError, Sink, Source, read_all, write_all};
-use history_laws::law_kept;
+use history_laws::{law_kept, law_one_history};
 use script_reader::{Script, ScriptError, read_script};
 use shared_log::History;
 use std::alloc::Global;
@@ -51,6 +51,7 @@ fn run_script<R: Threads + Sync, G: Gate + Sync>(
     ensures { IfOk result (λ run. IsRun script.now run.history run.text.items) }
 {
     law_kept();
+    law_one_history();
     let history = play(rt, alloc, script, gate)?;
     let text = report(alloc, script, history.words())?;
     Ok(Run { history, text })
