@@ -4,4 +4,6 @@ pub mod Numerals
 pub mod Plain
 pub mod Slots
 pub mod Sounds
+pub mod UpdateSizes
+pub mod UpdateSteps
 mod Rows

@@ -33,8 +33,8 @@ Answers (Ok script) reading = reading ≡ Ok script
 Answers (Err error) reading = Refuses error reading
 
 -- what the lines give is this, unless memory runs out
-abbrev pub Reads : Result ScriptOf ScriptError → Result ScriptOf Bad → Type 0
-Reads (Ok script) read = read ≡ Ok script
+abbrev pub Reads : {A : Type 0} → Result A ScriptError → Result A Bad → Type 0
+Reads (Ok x) read = read ≡ Ok x
 Reads (Err (BadLine line code)) read = read ≡ Err (record { line = line; code = code })
 Reads (Err (TooManyEvents need have)) read = ⊥
 Reads (Err NoMemory) read = Unit {0}

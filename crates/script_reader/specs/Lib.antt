@@ -12,3 +12,5 @@ pub mod Sound
 pub mod Steps
 pub mod Answers
 pub mod Printed
+pub mod UpdateTexts
+pub mod UpdateSizes

@@ -14,7 +14,9 @@ mod section;
 mod step;
 mod text;
 mod unit_line;
+mod update_text;
 mod words;
 
 pub use print::{NoMemory, print_script};
 pub use script::{Script, ScriptError, read_script};
+pub use update_text::{UpdateText, read_update};

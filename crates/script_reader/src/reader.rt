@@ -73,7 +73,7 @@ fn is_other(n: u64, word: &[u8]) -> bool
     }
 }
 
-fn is_skipped(words: &Words<'_>) -> bool
+pub(crate) fn is_skipped(words: &Words<'_>) -> bool
     ensures { result ≡ spec.is_skipped words.now }
 {
     words.is_empty() || words.word(0).first() == Some(&b'#')

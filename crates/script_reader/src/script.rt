@@ -106,7 +106,7 @@ fn finish(reader: Reader<'_>, line: u32) -> Result<Script, ScriptError>
     }
 }
 
-fn at(line: u32, error: StepError) -> ScriptError
+pub(crate) fn at(line: u32, error: StepError) -> ScriptError
     ensures { result ≡ refusal_of line error }
 {
     match error {
