@@ -15,6 +15,17 @@ abbrev pub is_submit : Command → Bool
 is_submit (Submit unit access slot) = true
 is_submit _ = false
 
+abbrev pub is_write : Command → Bool
+is_write (Write unit index value) = true
+is_write _ = false
+
+abbrev pub IsNoWrite : Command → Type 0
+IsNoWrite command = is_write command ≡ false
+
+-- No command of the section writes a register.
+abbrev pub WritesNothing : SectionOf → Type 0
+WritesNothing section = AllByRecursion IsNoWrite section.commands
+
 -- the units that stand in stages
 abbrev pub stage_units : Stages → List ℕ
 stage_units stages = take stages.count stages.units

@@ -5,7 +5,7 @@ use denote.Ref.{Bor}
 use Rattle.script_reader.specs.declared.step.StepError.{StepError}
 use Rattle.script_reader.specs.declared.step.StepError.TheVariants.{Code, NoMemory}
 use Rattle.script_reader.specs.Lines.{State, line_step}
-use Rattle.script_reader.specs.Scripts.{ScriptOf, Bad, lines_from, at_line}
+use Rattle.script_reader.specs.Scripts.{Bad, lines_from, at_line}
 use Rattle.script_reader.specs.Answers.{refusal_of, Reads}
 use Rattle.script_reader.specs.Steps.{Fails}
 
@@ -22,7 +22,7 @@ pub lines_ok : (s t : State) (n : ℕ) (ls : List (Bor (List ℕ))) (i : ℕ) (d
     → lines_from s n (drop i (texts ls)) ≡ lines_from t (n + 1) (drop (i + 1) (texts ls))
 lines_ok s t n ls i d h e = lines_more s n ls i d h ∙ ap (λ r. at_line n r (λ t. lines_from t (n + 1) (drop (i + 1) (texts ls)))) e
 
-refuses_at : (n : ℕ) (e : StepError) (read : Result State ℕ) (next : State → Result ScriptOf Bad) → Fails e read → Reads (Err (refusal_of n e)) (at_line n read next)
+pub refuses_at : {A B : Type 0} (n : ℕ) (e : StepError) (read : Result A ℕ) (next : A → Result B Bad) → Fails e read → Reads (Err (refusal_of n e)) (at_line n read next)
 refuses_at n (Code c) read next h = ap (λ r. at_line n r next) h
 refuses_at n NoMemory read next h = tt
 

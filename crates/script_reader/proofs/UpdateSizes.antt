@@ -1,5 +1,5 @@
 -- How long the parts of an update's input are, and in which lines they stand.
-use Rattle.std.proofs.Common.{◌≡◌, ℕ, suc, ◌+◌, ◌≤◌, ◌==◌, ◌&&◌, not, Bool, true, false, List, [], ◌∷◌, ◌++◌, Ok, Err, Result, length, codes, if◌then◌else◌, refl, sym, ap, subst, ◌∙◌, ◌-◌, ◌<◌, get_or, nat_le, slice_index, take, arith, length-append, sum_by}
+use Rattle.std.proofs.Common.{◌≡◌, ℕ, ◌+◌, ◌≤◌, ◌==◌, ◌&&◌, not, Bool, true, false, List, [], ◌∷◌, ◌++◌, Ok, Err, Result, length, codes, if◌then◌else◌, refl, sym, ap, subst, ◌∙◌, ◌-◌, ◌<◌, get_or, nat_le, slice_index, take, arith, length-append, sum_by}
 use Rattle.std.proofs.lemmas.Bool.{leb-true}
 use Rattle.std.proofs.lemmas.List.Sums.{sum_by-cons, sum_by_more}
 use Rattle.std.proofs.lemmas.List.{length-take-le, length-map, get_or-map}
@@ -159,7 +159,7 @@ onward lanes after s t n ls i d a h fits e =
     let line = (get_or ls i d).now in
     let next : FitsState t (sum_by line_size (take i (texts ls)) + line_size line) (n + 1) = subst (λ r. IfOk r (Onward (sum_by line_size (take i (texts ls))) n line)) (ap (λ w. update_step w s n line) (sym a) ∙ e) (step_fits lanes s (sum_by line_size (take i (texts ls))) n line fits) in
     let same : sum_by line_size (take (i + 1) (texts ls)) ≡ sum_by line_size (take i (texts ls)) + line_size line =
-        sum_by_more line_size (texts ls) i d.now within ∙ ap (λ x. sum_by line_size (take i (texts ls)) + line_size x) (get_or-map (λ (x : Bor (List ℕ)). x.now) ls i d d.now h) in
+    sum_by_more line_size (texts ls) i d.now within ∙ ap (λ x. sum_by line_size (take i (texts ls)) + line_size x) (get_or-map (λ (x : Bor (List ℕ)). x.now) ls i d d.now h) in
     subst (λ size. FitsState t size (n + 1)) (sym same) next
 
 -- before the first line

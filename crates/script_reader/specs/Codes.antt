@@ -41,10 +41,6 @@ unknown_name = 10
 abbrev pub absent_unit : ℕ
 absent_unit = 11
 
--- a form that isn't built yet
-abbrev pub not_built : ℕ
-not_built = 12
-
 -- the check after, where the one before has no code
 infixl 10 ◌>>=◌
 abbrev pub ◌>>=◌ : {A B : Type 0} → Result A ℕ → (A → Result B ℕ) → Result B ℕ

@@ -7,10 +7,10 @@ pub mod Names
 pub mod Commands
 pub mod Lines
 pub mod Scripts
-pub mod Plain
 pub mod Sound
 pub mod Steps
 pub mod Answers
+pub mod LiveLanes
 pub mod Printed
 pub mod UpdateTexts
 pub mod UpdateSizes

@@ -2,13 +2,12 @@
 use Rattle.std.specs.Prelude.{ℕ, ◌+◌, ◌&&◌, ◌||◌, ◌==◌, nat_lt, not, Bool, if◌then◌else◌, List, [], ◌∷◌, ◌++◌, length, codes, Ok, Err, slice_index}
 use Rattle.std.specs.declared.result.Result.{Result}
 use Rattle.std.specs.List.{list_all}
-use Rattle.std.specs.Str.{bytes_eq}
 use Rattle.event_words.specs.declared.shape.Shape.{Shape}
 use Rattle.event_words.specs.declared.section.Command.{Command}
 use Rattle.event_words.specs.Sections.{SectionOf}
 use Rattle.script_reader.specs.declared.reader.Place.{Place}
 use Rattle.script_reader.specs.declared.reader.Place.TheVariants.{Head, Units, Boot, Lane, Finished}
-use Rattle.script_reader.specs.Codes.{◌>>=◌, not_plain, no_head, misplaced, misshapen, out_of_range, not_built}
+use Rattle.script_reader.specs.Codes.{◌>>=◌, not_plain, no_head, misplaced, misshapen, out_of_range}
 use Rattle.script_reader.specs.Text.{is_plain, words_of}
 use Rattle.script_reader.specs.Numbers.{number_at}
 use Rattle.script_reader.specs.Words.{word_at, is_word_at}
@@ -42,11 +41,6 @@ pub record State : Type 0 where
   pub boot : SectionOf
   pub lanes : List SectionOf
   pub section : OpenSection
-
--- ---- the forms that are built, by the first word
-
-abbrev pub is_built : List ℕ → Bool
-is_built first = not (bytes_eq first (codes "through"))
 
 -- ---- one function for each kind of line
 
@@ -125,9 +119,7 @@ abbrev pub is_skipped : List (List ℕ) → Bool
 is_skipped words = length words == 0 || slice_index (word_at words 0) 0 == 35
 
 unfoldable pub words_step : State → List (List ℕ) → Result State ℕ
-words_step s words =
-    if is_skipped words then Ok s
-    else (place_step s.place s words >>= λ t. if is_built (word_at words 0) then Ok t else Err not_built)
+words_step s words = if is_skipped words then Ok s else place_step s.place s words
 
 unfoldable pub line_step : State → List ℕ → Result State ℕ
 line_step s line = if list_all is_plain line then words_step s (words_of line) else Err not_plain

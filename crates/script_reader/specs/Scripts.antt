@@ -28,7 +28,7 @@ end_of Head s n = Err (record { line = n; code = no_head })
 end_of Finished s n = Ok (record { shapes = s.shapes; boot = s.boot; lanes = s.lanes })
 end_of _ s n = Err (record { line = n; code = misplaced })
 
-abbrev pub at_line : {A : Type 0} → ℕ → Result A ℕ → (A → Result ScriptOf Bad) → Result ScriptOf Bad
+abbrev pub at_line : {A B : Type 0} → ℕ → Result A ℕ → (A → Result B Bad) → Result B Bad
 at_line n (Ok s) next = next s
 at_line n (Err code) next = Err (record { line = n; code = code })
 

@@ -12,7 +12,7 @@ use Rattle.script_reader.specs.Text.{is_plain, lines_of, words_of}
 use Rattle.script_reader.specs.Numbers.{ranged}
 use Rattle.script_reader.specs.Words.{word_at, is_word_at}
 use Rattle.script_reader.specs.Lines.{is_skipped}
-use Rattle.script_reader.specs.Scripts.{Bad}
+use Rattle.script_reader.specs.Scripts.{Bad, at_line}
 
 -- What the headings part: the texts of two policies, the number of polls, and the text of lanes with the
 -- number of its first line.
@@ -107,14 +107,10 @@ update_end Nothing t n = Ok t
 update_end Rest t n = Ok t
 update_end _ t n = Err (record { line = n; code = misplaced })
 
-abbrev pub at_update_line : ℕ → Result UpdateState ℕ → (UpdateState → Result UpdateTextOf Bad) → Result UpdateTextOf Bad
-at_update_line n (Ok s) next = next s
-at_update_line n (Err code) next = Err (record { line = n; code = code })
-
 -- the lines from number n on
 abbrev pub update_from : Wanted → UpdateState → ℕ → List (List ℕ) → Result UpdateTextOf Bad
 update_from after s n [] = update_end s.wanted s.text n
-update_from after s n (line ∷ lines) = at_update_line n (update_step after s n line) (λ t. update_from after t (n + 1) lines)
+update_from after s n (line ∷ lines) = at_line n (update_step after s n line) (λ t. update_from after t (n + 1) lines)
 
 -- what follows the number of polls
 abbrev pub after_polls : Bool → Wanted

@@ -5,6 +5,7 @@
 #![tactic(auto)]
 
 mod command;
+mod live;
 mod name;
 mod number;
 mod print;
@@ -17,6 +18,7 @@ mod unit_line;
 mod update_text;
 mod words;
 
+pub use live::read_lanes;
 pub use print::{NoMemory, print_script};
 pub use script::{Script, ScriptError, read_script};
 pub use update_text::{UpdateText, read_update};

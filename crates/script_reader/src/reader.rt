@@ -6,7 +6,7 @@ ghost use Rattle.script_reader.specs.Numbers.{number_at};
 use crate::command::{command, submit};
 use crate::number::number;
 use crate::section::OpenSection;
-use crate::step::{MISPLACED, MISSHAPEN, NO_HEAD, NOT_BUILT, NOT_PLAIN, OUT_OF_RANGE, StepError};
+use crate::step::{MISPLACED, MISSHAPEN, NO_HEAD, NOT_PLAIN, OUT_OF_RANGE, StepError};
 use crate::text;
 use crate::unit_line::unit_shape;
 use crate::words::Words;
@@ -48,13 +48,6 @@ impl<'a> Model for Reader<'a> {
     ghost view = { λ r. record { place = r.place; shapes = r.shapes.items; boot = r.boot; lanes = r.lanes.items; section = r.section } };
 
     ghost invariant = { λ r. IsSound (record { place = r.place; shapes = r.shapes.items; boot = r.boot; lanes = r.lanes.items; section = r.section }) };
-}
-
-/// Whether the form of a line with this first word is built.
-fn is_built(first: &[u8]) -> bool
-    ensures { result ≡ spec.is_built first.now }
-{
-    first != b"through".as_slice()
 }
 
 fn is_head(words: &Words<'_>) -> bool
@@ -302,7 +295,11 @@ impl<'a> Reader<'a> {
         }
     }
 
-    fn placed_line(self, alloc: Global, words: &Words<'a>) -> Result<Reader<'a>, StepError>
+    pub(crate) fn placed_line(
+        self,
+        alloc: Global,
+        words: &Words<'a>,
+    ) -> Result<Reader<'a>, StepError>
         requires { length self.section.commands ≤ 4194304 }
         ensures value { Gives result (spec.place_step self.entry.place self.entry words.now) }
         ensures grown { IfOk result (λ r. length r.section.commands ≤ length self.entry.section.commands + 1) }
@@ -324,11 +321,7 @@ impl<'a> Reader<'a> {
         if is_skipped(words) {
             return Ok(self);
         }
-        let next = self.placed_line(alloc, words)?;
-        if !is_built(words.word(0)) {
-            return Err(StepError::Code(NOT_BUILT));
-        }
-        Ok(next)
+        self.placed_line(alloc, words)
     }
 
     /// The state after one more line.

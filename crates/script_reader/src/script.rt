@@ -3,7 +3,6 @@ ghost use Rattle.std.specs.Prelude.{◌≡◌, ◌+◌, ◌≤◌, ◌^◌, max,
 ghost use Rattle.std.specs.List.{AllByRecursion};
 ghost use Rattle.event_words.specs.Sections.{IsValidSection};
 ghost use Rattle.script_reader.specs.Scripts.{IsWellFormedScript, need_of, most_from, end_of, script_at};
-ghost use Rattle.script_reader.specs.Plain.{IsPlainScript};
 ghost use Rattle.script_reader.specs.Answers.{reading_of, refusal_of, Answers, Reads};
 
 use crate::reader::{Place, Reader};
@@ -33,7 +32,7 @@ impl Model for Script {
 /// Why bytes are no script that can be run.
 #[derive(Clone, Copy, Debug, PartialEq, Eq)]
 pub enum ScriptError {
-    /// The first bad line, numbered from 1, and its code, 1 to 12.
+    /// The first bad line, numbered from 1, and its code, 1 to 11.
     BadLine { line: u32, code: u8 },
     /// A run would need more events than there may be.
     TooManyEvents { need: u64, have: u64 },
@@ -143,7 +142,6 @@ pub fn read_script(alloc: Global, bytes: &[u8]) -> Result<Script, ScriptError>
     ensures answer { Answers result (reading_of bytes.now) }
     ensures formed { IfOk result (λ s. IsWellFormedScript s) }
     ensures few { IfOk result (λ s. need_of s ≤ 1048576) }
-    ensures plain { IfOk result (λ s. IsPlainScript s) }
 {
     let script = read_lines(alloc, bytes)?;
     let need = script.need();

@@ -37,9 +37,6 @@ pub const UNKNOWN_NAME: u8 = 10;
 /// A unit that isn't there.
 pub const ABSENT_UNIT: u8 = 11;
 
-/// A form that isn't built yet.
-pub const NOT_BUILT: u8 = 12;
-
 /// Why a line adds nothing: it has a code, or memory ran out.
 #[derive(Clone, Copy, Debug, PartialEq, Eq)]
 pub enum StepError {
