@@ -19,6 +19,6 @@ mod update_text;
 mod words;
 
 pub use live::read_lanes;
-pub use print::{NoMemory, print_script};
+pub use print::{NoMemory, print_lane, print_script};
 pub use script::{Script, ScriptError, read_script};
 pub use update_text::{UpdateText, read_update};
