@@ -18,3 +18,6 @@ pub mod Examples
 pub mod LengthLaw
 pub mod OneRecord
 pub mod OneHistoryLaw
+pub mod Numerals
+pub mod EventTexts
+pub mod EqualReportsLaw

@@ -12,6 +12,7 @@ ghost use Rattle.history_laws.specs.Verdicts.{LawVerdicts};
 ghost use Rattle.history_laws.specs.Laws.{LawKept};
 ghost use Rattle.history_laws.specs.Lengths.{LawLengths};
 ghost use Rattle.history_laws.specs.OneHistory.{LawOneHistory};
+ghost use Rattle.history_laws.specs.EqualReports.{LawReports};
 
 /// In every state each queued submission has a known, stalled requester, and a queue has at most its
 /// size.
@@ -55,4 +56,10 @@ pub fn law_lengths()
 /// A script without lanes has one legal history.
 pub fn law_one_history()
     ensures { LawOneHistory }
+{}
+
+/// A report tells the whole history that it is of: two lists of event words, legal or not, that give
+/// equal reports under one script are equal.
+pub fn law_reports()
+    ensures { LawReports }
 {}
