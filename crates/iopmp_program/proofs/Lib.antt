@@ -1,6 +1,5 @@
 pub mod Repeats
 pub mod UnitLines
 pub mod Endings
-pub mod ImageEndings
+pub mod PrintingEndings
 pub mod Plays
-pub mod PlainSections

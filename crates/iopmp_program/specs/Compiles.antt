@@ -14,9 +14,11 @@ use Rattle.policy_compiler.specs.Needs.{need_refusal}
 use Rattle.policy_compiler.specs.Images.{ImageOf, image_of}
 use Rattle.policy_compiler.specs.Laws.{DecidesAs}
 use Rattle.iopmp_program.specs.declared.status.Status.{Status}
-use Rattle.iopmp_program.specs.declared.status.Status.TheVariants.{Done, Usage, BadInput, ReadFault, WriteFault, NoMemory, TooLong}
+use Rattle.iopmp_program.specs.declared.status.Status.TheVariants.{Done, NoMemory}
+use Rattle.iopmp_program.specs.declared.policy_lines.WhichPolicy.TheVariants.{Only}
 use Rattle.iopmp_program.specs.PolicyLines.{policy_line, need_line}
-use Rattle.iopmp_program.specs.Endings.{Streams, WasRead, IsTooLong, WasWritten, NothingWritten, PrefixWritten, SourceFailed, SinkFailed}
+use Rattle.iopmp_program.specs.Endings.{Streams, SourceFailed, SinkFailed}
+use Rattle.iopmp_program.specs.Printing.{EndsPrinting}
 
 -- ---- the script of an image
 
@@ -42,7 +44,7 @@ pub record IsCompiled (bytes text : List ℕ) : Type 0 where
 pub record IsNoPolicy (bytes line : List ℕ) : Type 0 where
   pub error : PolicyError
   pub fault : Reads (Err error) bytes
-  pub named : policy_line error ≡ Some line
+  pub named : policy_line Only error ≡ Some line
 
 -- The text is a policy that needs more than its unit has, and the line says what.
 pub record NeedsMore (bytes line : List ℕ) : Type 0 where
@@ -50,32 +52,15 @@ pub record NeedsMore (bytes line : List ℕ) : Type 0 where
   pub error : CompileError
   pub stands_for : Reads (Ok policy) bytes
   pub needs : need_refusal policy ≡ Some error
-  pub named : need_line error ≡ Some line
+  pub named : need_line Only error ≡ Some line
 
 abbrev pub IsRefused : List ℕ → List ℕ → Type 0
 IsRefused bytes line = IsNoPolicy bytes line ⊎ NeedsMore bytes line
 
--- the same of what the source had left
-abbrev pub IsImageText : Streams → List ℕ → Type 0
-IsImageText s text = (bytes : List ℕ) × WasRead s bytes × IsCompiled bytes text
-
-abbrev pub IsPolicyRefusal : Streams → List ℕ → Type 0
-IsPolicyRefusal s text = (bytes : List ℕ) × WasRead s bytes × IsRefused bytes text
-
--- The one text that the input gives: the image's script, or a fault line.
-abbrev pub IsCompileAnswer : Streams → List ℕ → Type 0
-IsCompileAnswer s text = IsImageText s text ⊎ IsPolicyRefusal s text ⊎ IsTooLong s text
-
 -- ---- what each status says of a call whose words are `compile`
 
 abbrev pub EndsCompile : Streams → Status → Option (List ℕ) → Type 0
-EndsCompile s Done history = (history ≡ None) × ((text : List ℕ) × IsImageText s text × WasWritten s text)
-EndsCompile s Usage history = ⊥
-EndsCompile s BadInput history = (history ≡ None) × ((text : List ℕ) × IsPolicyRefusal s text × WasWritten s text)
-EndsCompile s ReadFault history = (history ≡ None) × NothingWritten s × SourceFailed s
-EndsCompile s WriteFault history = (history ≡ None) × ((text : List ℕ) × IsCompileAnswer s text × PrefixWritten s text) × SinkFailed s
-EndsCompile s NoMemory history = (history ≡ None) × NothingWritten s
-EndsCompile s TooLong history = (history ≡ None) × ((text : List ℕ) × IsTooLong s text × WasWritten s text)
+EndsCompile = EndsPrinting IsCompiled IsRefused
 
 -- ---- completeness
 

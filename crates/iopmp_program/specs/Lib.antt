@@ -6,7 +6,11 @@ pub mod FaultLines
 pub mod Runs
 pub mod Endings
 pub mod Prints
+pub mod Printing
 pub mod PolicyLines
 pub mod Compiles
-pub mod ImageTexts
+pub mod PlanLines
+pub mod Updates
+pub mod PlanTexts
+pub mod Givings
 pub mod Plays

@@ -15,7 +15,10 @@ mod lane_tests;
 #[cfg(test)]
 mod layer_tests;
 mod memory;
+mod planning;
 mod playing;
+mod policy_lines;
+mod printing;
 mod program;
 mod record;
 mod replay;
@@ -25,6 +28,7 @@ mod status;
 mod test_rows;
 #[cfg(test)]
 mod tests;
+mod updating;
 
 pub use memory::NoMemory;
 pub use playing::play;

@@ -3,14 +3,13 @@ ghost use Rattle.std.specs.Prelude.{◌≡◌, ◌+◌, ◌*◌, ◌<◌, ◌≤
 ghost use Rattle.std.specs.List.{AllByRecursion};
 ghost use Rattle.event_words.specs.Valid.{IsValidShape};
 ghost use Rattle.script_reader.specs.Scripts.{IsWellFormedScript, need_of};
-ghost use Rattle.script_reader.specs.Plain.{IsPlainScript};
 ghost use Rattle.unit_core.specs.Histories.{IsLegalHistory};
 ghost use Rattle.checker_workers.specs.Ports.{PortView, unit_count};
 ghost use Rattle.checker_workers.specs.Lanes.{LaneView, MayPlay, MayRun};
 ghost use Rattle.iopmp_program.specs.Plays.{IsOpened, IsFreshReplica, HasPlayed, IsFirstCaller, MaySplit, MayBePlayed, MayAllPlay, IsReadyLane, AreReadyLanes, RunsTo, port_of};
 
 use crate::NoMemory;
-use crate::budgets::{budget, sections_are_plain};
+use crate::budgets::budget;
 use crate::copies::copy_section;
 use checker_workers::{Gate, Lane, Port, run_lanes};
 use event_words::{Section, Shape};
@@ -180,10 +179,8 @@ pub fn play<R: Threads + Sync, G: Gate + Sync>(
 ) -> Result<History, NoMemory>
     requires formed { IsWellFormedScript script.now }
     requires few { need_of script.now ≤ 1048576 }
-    requires plain { IsPlainScript script.now }
     ensures { IfOk result (λ words. IsLegalHistory script.now.shapes script.now.boot script.now.lanes words) }
 {
     let budget = budget(script);
-    sections_are_plain(script);
     play_sections(rt, alloc, script, budget, gate)
 }

@@ -3,7 +3,6 @@ ghost use Rattle.std.specs.Prelude.{◌≡◌, ◌≤◌, map, None, Some, IfOk}
 ghost use Rattle.std.specs.String.{string_bytes};
 ghost use Rattle.edge_io.specs.Faults.{Rose};
 ghost use Rattle.script_reader.specs.Scripts.{IsWellFormedScript, need_of};
-ghost use Rattle.script_reader.specs.Plain.{IsPlainScript};
 ghost use Rattle.script_reader.specs.Answers.{reading_of};
 ghost use Rattle.iopmp_program.specs.declared.command.Command.TheVariants as commands;
 ghost use Rattle.iopmp_program.specs.Commands.{command_of};
@@ -47,7 +46,6 @@ fn run_script<R: Threads + Sync, G: Gate + Sync>(
 ) -> Result<Run, NoMemory>
     requires formed { IsWellFormedScript script.now }
     requires few { need_of script.now ≤ 1048576 }
-    requires plain { IsPlainScript script.now }
     ensures { IfOk result (λ run. IsRun script.now run.history run.text.items) }
 {
     law_kept();
@@ -96,7 +94,6 @@ fn print_run<R: Threads + Sync, K: Sink, G: Gate + Sync>(
 ) -> Outcome
     requires formed { IsWellFormedScript script.now }
     requires few { need_of script.now ≤ 1048576 }
-    requires plain { IsPlainScript script.now }
     ensures { Reports (sink_change (K.taken sink.old) (K.taken sink.new) (K.faults sink.old) (K.faults sink.new)) script.now result.status result.history }
 {
     let Ok(run) = run_script(rt, alloc, script, gate) else {

@@ -1,6 +1,6 @@
 -- The formatted line is the named one.
 use Rattle.std.proofs.Common.{Some, ap, sym}
-use Rattle.iopmp_program.proofs.compiling.need_line.Goals as goal
+use Rattle.iopmp_program.proofs.policy_lines.need_line.Goals as goal
 
 pub returns-in_ok-line-in-TooManyDomains : goal.returns-in_ok-line-in-TooManyDomains
 returns-in_ok-line-in-TooManyDomains c = rw c.in-TooManyDomains.is (ap Some (sym c.in_ok-line-in-TooManyDomains.ensures.ok))
