@@ -1,0 +1,6 @@
+pub mod Making
+pub mod Repeats
+pub mod Turns
+pub mod Judging
+pub mod Causes
+pub mod Stages

@@ -1,0 +1,119 @@
+-- The events of one stage.
+use Rattle.std.proofs.Common.{◌≡◌, ℕ, ◌+◌, ◌-◌, ◌≤◌, Bool, true, false, cond, List, [], ◌∷◌, ◌++◌, length, Option, Some, None, refl, sym, ap, ◌∙◌, subst, arith, length-append, append-nil}
+use Rattle.std.specs.Prelude.{◌&&◌, nat_le, count_by}
+use Rattle.std.specs.List.{AllByRecursion, list_all}
+use Rattle.std.proofs.lemmas.Bool.{and_from}
+use Rattle.event_words.specs.declared.access.Access.{Access}
+use Rattle.event_words.specs.declared.event.Event.{Event}
+use Rattle.event_words.specs.declared.event.Event.TheVariants as events
+use Rattle.event_words.specs.declared.reply.Reply.{Reply}
+use Rattle.event_words.specs.declared.reply.Reply.TheVariants as replies
+use Rattle.event_words.specs.declared.reply.Verdict.TheVariants as verdicts
+use Rattle.event_words.specs.declared.record.LoggedEvent.{LoggedEvent}
+use Rattle.event_words.specs.Records.{is_taken, judgements, next_requester, stage_following, stage_judged, stage_piece}
+use Rattle.event_words.specs.Valid.{IsValidEvent}
+use Rattle.event_words.specs.Word.{word_of}
+use Rattle.shared_log.specs.Callers.{CallerView, AfterCall}
+use Rattle.shared_log.proofs.Histories.{logged_call}
+use Rattle.cascade_path.specs.declared.chain.ChainReply.{ChainReply}
+use Rattle.cascade_path.specs.declared.chain.ChainReply.TheVariants.{Allowed, Odd}
+use Rattle.cascade_path.specs.Making.{MakesEvents}
+use Rattle.cascade_path.specs.Answers.{submission_answer, judgement_answer, answer_to, is_submission, submits}
+use Rattle.cascade_path.specs.Stages.{JudgesUntil, PassesStage, allowed_next, is_undecided, waits}
+use Rattle.cascade_path.proofs.Making.{makes_one, makes_both}
+use Rattle.cascade_path.proofs.Repeats.{first_as-cons}
+use Rattle.cascade_path.proofs.Turns.{IsHeldJudgement, AreJudgements, are_judgements}
+use Rattle.cascade_path.proofs.Causes.{count-append}
+
+-- ---- what is said of a reply
+
+taken_waits : (r : Reply) → is_taken r ≡ true → is_undecided (submission_answer 0 r) ≡ true
+taken_waits replies.Passed h = refl
+taken_waits replies.Queued h = refl
+taken_waits replies.Busy h = absurd (let n : false ≡ true = h in cc)
+taken_waits (replies.Stalled d) h = absurd (let n : false ≡ true = h in cc)
+taken_waits (replies.Value v) h = absurd (let n : false ≡ true = h in cc)
+taken_waits (replies.Verdict v) h = absurd (let n : false ≡ true = h in cc)
+taken_waits replies.Held h = absurd (let n : false ≡ true = h in cc)
+taken_waits replies.NoSuch h = absurd (let n : false ≡ true = h in cc)
+
+allowed_by : (stage next : ℕ) (b : Bool) → allowed_next (cond b (Allowed next) (Odd stage (replies.Verdict (verdicts.Allowed next)))) ≡ cond b (Some next) None
+allowed_by stage next true = refl
+allowed_by stage next false = refl
+
+-- the next stage bears what the verdict allows
+next_is : (stage place : ℕ) (r : Reply) → allowed_next (judgement_answer stage place r) ≡ next_requester r
+next_is stage place (replies.Verdict (verdicts.Allowed next)) = allowed_by stage next (nat_le next 63)
+next_is stage place (replies.Verdict (verdicts.Denied d)) = refl
+next_is stage place replies.Held = refl
+next_is stage place replies.Passed = refl
+next_is stage place replies.Queued = refl
+next_is stage place replies.Busy = refl
+next_is stage place (replies.Stalled d) = refl
+next_is stage place (replies.Value v) = refl
+next_is stage place replies.NoSuch = refl
+
+-- ---- held judgements
+
+held_wait : (u c p : ℕ) (xs : List LoggedEvent) → AllByRecursion (IsHeldJudgement u c p) xs → list_all waits xs ≡ true
+held_wait u c p [] h = refl
+held_wait u c p (x ∷ xs) h =
+    and_from (waits x) (list_all waits xs)
+    (ap (λ (e : Event). is_undecided (answer_to 0 e x.reply)) h.0.event ∙ ap (λ (r : Reply). is_undecided (answer_to 0 (events.Judge u c p) r)) h.0.reply)
+    (held_wait u c p xs h.1)
+
+held_submit_none : (u c p : ℕ) (xs : List LoggedEvent) → AllByRecursion (IsHeldJudgement u c p) xs → count_by is_submission xs ≡ 0
+held_submit_none u c p [] h = refl
+held_submit_none u c p (x ∷ xs) h =
+    count-append is_submission (x ∷ []) xs ∙ ap (λ (e : Event). cond (submits e) 1 0 + count_by is_submission xs) h.0.event ∙ held_submit_none u c p xs h.1
+
+module _ {M S : Type 0} (after : S → ℕ → ℕ → S) (reply : S → ℕ → ℕ → Reply) where
+  -- a submission that wasn't taken
+  pub stage_refused : (c d : CallerView M S) (stage unit : ℕ) (a : Access) (tries : ℕ) (r : Reply) (answer : ChainReply) (call : AfterCall after reply c (word_of (events.Submit unit c.number a)) r d) → IsValidEvent (events.Submit unit c.number a)
+      → is_taken r ≡ false → submission_answer stage r ≡ Some answer → allowed_next answer ≡ None → PassesStage after reply c stage unit a tries answer d
+  stage_refused c d stage unit a tries r answer call valid refused decided none =
+      let e : Event = events.Submit unit c.number a in
+      let x : LoggedEvent = logged_call after reply c e r d call in record {
+        earlier = [];
+        last = x;
+        adds = makes_one after reply c d e r call valid refl;
+        few = omega arith;
+        record_is = λ go rest.
+          ap (stage_piece c.number tries unit go) (first_as-cons e x rest refl)
+          ∙ ap (λ (t : Bool). cond t (stage_judged go (judgements tries (events.Judge unit c.number x.place) rest)) (Some rest)) refused
+          ∙ ap (λ (o : Option ℕ). stage_following go o rest) (sym none);
+        submissions = refl;
+        waiting = refl;
+        decided = decided;
+      }
+
+  -- a submission that was taken, and its judgements
+  pub stage_judged_at : (c d f : CallerView M S) (stage unit : ℕ) (a : Access) (tries place : ℕ) (r last : Reply) (call : AfterCall after reply c (word_of (events.Submit unit c.number a)) r d) → IsValidEvent (events.Submit unit c.number a)
+      → is_taken r ≡ true → place ≡ length d.log - 1 → JudgesUntil after reply d (events.Judge unit d.number place) tries last f → PassesStage after reply c stage unit a tries (judgement_answer stage place last) f
+  stage_judged_at c d f stage unit a tries place r last call valid taken at judged =
+      let e : Event = events.Submit unit c.number a in
+      let x : LoggedEvent = logged_call after reply c e r d call in
+      let same : d.number ≡ c.number = ap (λ (v : CallerView M S). v.number) call.same in
+      let j : JudgesUntil after reply d (events.Judge unit c.number place) tries last f = subst (λ (n : ℕ). JudgesUntil after reply d (events.Judge unit n place) tries last f) same judged in
+      let words : List ℕ = c.log ++ call.between in
+      let there : x.place ≡ place = (let l : length d.log ≡ length words + 1 = ap length call.log ∙ length-append words (word_of e ∷ []) in omega arith) in
+      let js : AreJudgements unit c.number place last j.made = are_judgements tries unit c.number place last j.made (ap (judgements tries (events.Judge unit c.number place)) (sym (append-nil j.made)) ∙ j.record_is []) in
+      let whole : List LoggedEvent = js.held ++ js.last ∷ [] in record {
+        earlier = x ∷ js.held;
+        last = js.last;
+        adds = subst (λ (l : List LoggedEvent). MakesEvents after reply c (x ∷ l) f) js.is (makes_both after reply c d f (x ∷ []) j.made (makes_one after reply c d e r call valid refl) j.adds);
+        few = let n = j.few in omega (arith, ap length js.is, length-append js.held (js.last ∷ []));
+        record_is = λ go rest.
+          ap (stage_piece c.number tries unit go) (first_as-cons e x (whole ++ rest) refl)
+          ∙ ap (λ (t : Bool). cond t (stage_judged go (judgements tries (events.Judge unit c.number x.place) (whole ++ rest))) (Some (whole ++ rest))) taken
+          ∙ ap (λ (l : List LoggedEvent). stage_judged go (judgements tries (events.Judge unit c.number x.place) (l ++ rest))) (sym js.is)
+          ∙ ap (λ (p : ℕ). stage_judged go (judgements tries (events.Judge unit c.number p) (j.made ++ rest))) there
+          ∙ ap (stage_judged go) (j.record_is rest)
+          ∙ ap (λ (o : Option ℕ). stage_following go o rest) (sym (next_is stage place last));
+        submissions = count-append is_submission (x ∷ []) whole
+          ∙ ap (λ (n : ℕ). 1 + n) (count-append is_submission js.held (js.last ∷ []))
+          ∙ ap (λ (n : ℕ). 1 + (n + count_by is_submission (js.last ∷ []))) (held_submit_none unit c.number place js.held js.all_held)
+          ∙ ap (λ (v : Event). 1 + (0 + (0 + cond (submits v) 1 0))) js.event;
+        waiting = and_from (waits x) (list_all waits js.held) (taken_waits r taken) (held_wait unit c.number place js.held js.all_held);
+        decided = ap (λ (v : Event). answer_to stage v js.last.reply) js.event ∙ ap (answer_to stage (events.Judge unit c.number place)) js.reply_is;
+      }
