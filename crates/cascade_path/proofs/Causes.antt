@@ -1,5 +1,5 @@
 -- What events decide, wherever they stand.
-use Rattle.std.proofs.Common.{◌≡◌, ℕ, ◌+◌, Bool, true, false, cond, List, [], ◌∷◌, ◌++◌, Option, Some, None, refl, sym, ap, ◌∙◌}
+use Rattle.std.proofs.Common.{◌≡◌, ℕ, ◌+◌, Bool, true, false, cond, List, [], ◌∷◌, ◌++◌, Option, Some, None, refl, sym, ap, ◌∙◌, arith}
 use Rattle.std.specs.Prelude.{◌&&◌, ◌||◌, nat_le, count_by, option_and_then}
 use Rattle.std.specs.List.{list_all, list_any, last_or}
 use Rattle.std.proofs.lemmas.Bool.{and_parts}
@@ -97,5 +97,5 @@ pub count_waiting : (kind : ChainReply → Bool) → IsClosedKind kind → (xs :
 count_waiting kind k [] h = refl
 count_waiting kind k (x ∷ xs) h =
     let b = and_parts (waits x) (list_all waits xs) h in
-    count-append (decides kind) (x ∷ []) xs
-    ∙ ap (λ (t : Bool). cond t 1 0 + count_by (decides kind) xs) (undecided_kind kind k (event_answer 0 x) b.0) ∙ count_waiting kind k xs b.1
+    let one : count_by (decides kind) (x ∷ []) ≡ 0 = ap (λ (t : Bool). 0 + cond t 1 0) (undecided_kind kind k (event_answer 0 x) b.0) in
+    omega (arith, count-append (decides kind) (x ∷ []) xs, count_waiting kind k xs b.1)

@@ -4,3 +4,4 @@ pub mod Turns
 pub mod Judging
 pub mod Causes
 pub mod Stages
+pub mod Passing

@@ -6,11 +6,12 @@ use Rattle.std.proofs.lemmas.Bool.{and_from}
 use Rattle.event_words.specs.declared.access.Access.{Access}
 use Rattle.event_words.specs.declared.event.Event.{Event}
 use Rattle.event_words.specs.declared.event.Event.TheVariants as events
+use Rattle.event_words.specs.declared.reply.Denial.{Denial}
 use Rattle.event_words.specs.declared.reply.Reply.{Reply}
 use Rattle.event_words.specs.declared.reply.Reply.TheVariants as replies
 use Rattle.event_words.specs.declared.reply.Verdict.TheVariants as verdicts
 use Rattle.event_words.specs.declared.record.LoggedEvent.{LoggedEvent}
-use Rattle.event_words.specs.Records.{is_taken, judgements, next_requester, stage_following, stage_judged, stage_piece}
+use Rattle.event_words.specs.Records.{first_as, is_taken, judgements, next_requester, stage_following, stage_judged, stage_piece}
 use Rattle.event_words.specs.Valid.{IsValidEvent}
 use Rattle.event_words.specs.Word.{word_of}
 use Rattle.shared_log.specs.Callers.{CallerView, AfterCall}
@@ -36,6 +37,26 @@ taken_waits (replies.Value v) h = absurd (let n : false ≡ true = h in cc)
 taken_waits (replies.Verdict v) h = absurd (let n : false ≡ true = h in cc)
 taken_waits replies.Held h = absurd (let n : false ≡ true = h in cc)
 taken_waits replies.NoSuch h = absurd (let n : false ≡ true = h in cc)
+
+pub refused_reply : (r : Reply) → (r ≡ replies.Passed → ⊥) → (r ≡ replies.Queued → ⊥) → is_taken r ≡ false
+refused_reply replies.Passed p q = absurd (p refl)
+refused_reply replies.Queued p q = absurd (q refl)
+refused_reply replies.Busy p q = refl
+refused_reply (replies.Stalled d) p q = refl
+refused_reply (replies.Value v) p q = refl
+refused_reply (replies.Verdict v) p q = refl
+refused_reply replies.Held p q = refl
+refused_reply replies.NoSuch p q = refl
+
+pub odd_answer : (stage : ℕ) (r : Reply) → (r ≡ replies.Passed → ⊥) → (r ≡ replies.Queued → ⊥) → (r ≡ replies.Busy → ⊥) → ((d : Denial) → r ≡ replies.Stalled d → ⊥) → submission_answer stage r ≡ Some (Odd stage r)
+odd_answer stage replies.Passed p q b s = absurd (p refl)
+odd_answer stage replies.Queued p q b s = absurd (q refl)
+odd_answer stage replies.Busy p q b s = absurd (b refl)
+odd_answer stage (replies.Stalled d) p q b s = absurd (s d refl)
+odd_answer stage (replies.Value v) p q b s = refl
+odd_answer stage (replies.Verdict v) p q b s = refl
+odd_answer stage replies.Held p q b s = refl
+odd_answer stage replies.NoSuch p q b s = refl
 
 allowed_by : (stage next : ℕ) (b : Bool) → allowed_next (cond b (Allowed next) (Odd stage (replies.Verdict (verdicts.Allowed next)))) ≡ cond b (Some next) None
 allowed_by stage next true = refl
@@ -65,7 +86,31 @@ held_wait u c p (x ∷ xs) h =
 held_submit_none : (u c p : ℕ) (xs : List LoggedEvent) → AllByRecursion (IsHeldJudgement u c p) xs → count_by is_submission xs ≡ 0
 held_submit_none u c p [] h = refl
 held_submit_none u c p (x ∷ xs) h =
-    count-append is_submission (x ∷ []) xs ∙ ap (λ (e : Event). cond (submits e) 1 0 + count_by is_submission xs) h.0.event ∙ held_submit_none u c p xs h.1
+    let one : count_by is_submission (x ∷ []) ≡ 0 = ap (λ (e : Event). 0 + cond (submits e) 1 0) h.0.event in
+    omega (arith, count-append is_submission (x ∷ []) xs, held_submit_none u c p xs h.1)
+
+one_submission : (u c p : ℕ) (x : LoggedEvent) (held : List LoggedEvent) (last : LoggedEvent) → submits x.event ≡ true → AllByRecursion (IsHeldJudgement u c p) held → last.event ≡ events.Judge u c p → count_by is_submission ((x ∷ held) ++ last ∷ []) ≡ 1
+one_submission u c p x held last first all e =
+    let one : count_by is_submission (x ∷ []) ≡ 1 = ap (λ (t : Bool). 0 + cond t 1 0) first in
+    let none : count_by is_submission (last ∷ []) ≡ 0 = ap (λ (v : Event). 0 + cond (submits v) 1 0) e in
+    omega (arith, count-append is_submission (x ∷ []) (held ++ last ∷ []), count-append is_submission held (last ∷ []), held_submit_none u c p held all)
+
+-- a submission that was taken, and its judgements
+taken_record : (n tries unit place : ℕ) (a : Access) (x : LoggedEvent) (last : Reply) (made : List LoggedEvent) (go : ℕ → List LoggedEvent → Option (List LoggedEvent)) (rest : List LoggedEvent)
+    → x.event ≡ events.Submit unit n a → is_taken x.reply ≡ true → x.place ≡ place → judgements tries (events.Judge unit n place) (made ++ rest) ≡ Some (last, rest)
+    → stage_piece n tries unit go (first_as (events.Submit unit n a) (x ∷ (made ++ rest))) ≡ stage_following go (next_requester last) rest
+taken_record n tries unit place a x last made go rest is taken there judged =
+    ap (stage_piece n tries unit go) (first_as-cons (events.Submit unit n a) x (made ++ rest) is)
+    ∙ ap (λ (t : Bool). cond t (stage_judged go (judgements tries (events.Judge unit n x.place) (made ++ rest))) (Some (made ++ rest))) taken
+    ∙ ap (λ (p : ℕ). stage_judged go (judgements tries (events.Judge unit n p) (made ++ rest))) there
+    ∙ ap (stage_judged go) judged
+
+-- a submission that wasn't
+refused_record : (n tries unit : ℕ) (a : Access) (x : LoggedEvent) (go : ℕ → List LoggedEvent → Option (List LoggedEvent)) (rest : List LoggedEvent)
+    → x.event ≡ events.Submit unit n a → is_taken x.reply ≡ false → stage_piece n tries unit go (first_as (events.Submit unit n a) (x ∷ rest)) ≡ Some rest
+refused_record n tries unit a x go rest is refused =
+    ap (stage_piece n tries unit go) (first_as-cons (events.Submit unit n a) x rest is)
+    ∙ ap (λ (t : Bool). cond t (stage_judged go (judgements tries (events.Judge unit n x.place) rest)) (Some rest)) refused
 
 module _ {M S : Type 0} (after : S → ℕ → ℕ → S) (reply : S → ℕ → ℕ → Reply) where
   -- a submission that wasn't taken
@@ -78,10 +123,7 @@ module _ {M S : Type 0} (after : S → ℕ → ℕ → S) (reply : S → ℕ →
         last = x;
         adds = makes_one after reply c d e r call valid refl;
         few = omega arith;
-        record_is = λ go rest.
-          ap (stage_piece c.number tries unit go) (first_as-cons e x rest refl)
-          ∙ ap (λ (t : Bool). cond t (stage_judged go (judgements tries (events.Judge unit c.number x.place) rest)) (Some rest)) refused
-          ∙ ap (λ (o : Option ℕ). stage_following go o rest) (sym none);
+        record_is = λ go rest. refused_record c.number tries unit a x go rest refl refused ∙ ap (λ (o : Option ℕ). stage_following go o rest) (sym none);
         submissions = refl;
         waiting = refl;
         decided = decided;
@@ -103,17 +145,9 @@ module _ {M S : Type 0} (after : S → ℕ → ℕ → S) (reply : S → ℕ →
         last = js.last;
         adds = subst (λ (l : List LoggedEvent). MakesEvents after reply c (x ∷ l) f) js.is (makes_both after reply c d f (x ∷ []) j.made (makes_one after reply c d e r call valid refl) j.adds);
         few = let n = j.few in omega (arith, ap length js.is, length-append js.held (js.last ∷ []));
-        record_is = λ go rest.
-          ap (stage_piece c.number tries unit go) (first_as-cons e x (whole ++ rest) refl)
-          ∙ ap (λ (t : Bool). cond t (stage_judged go (judgements tries (events.Judge unit c.number x.place) (whole ++ rest))) (Some (whole ++ rest))) taken
-          ∙ ap (λ (l : List LoggedEvent). stage_judged go (judgements tries (events.Judge unit c.number x.place) (l ++ rest))) (sym js.is)
-          ∙ ap (λ (p : ℕ). stage_judged go (judgements tries (events.Judge unit c.number p) (j.made ++ rest))) there
-          ∙ ap (stage_judged go) (j.record_is rest)
+        record_is = λ go rest. taken_record c.number tries unit place a x last whole go rest refl taken there (ap (λ (l : List LoggedEvent). judgements tries (events.Judge unit c.number place) (l ++ rest)) (sym js.is) ∙ j.record_is rest)
           ∙ ap (λ (o : Option ℕ). stage_following go o rest) (sym (next_is stage place last));
-        submissions = count-append is_submission (x ∷ []) whole
-          ∙ ap (λ (n : ℕ). 1 + n) (count-append is_submission js.held (js.last ∷ []))
-          ∙ ap (λ (n : ℕ). 1 + (n + count_by is_submission (js.last ∷ []))) (held_submit_none unit c.number place js.held js.all_held)
-          ∙ ap (λ (v : Event). 1 + (0 + (0 + cond (submits v) 1 0))) js.event;
+        submissions = one_submission unit c.number place x js.held js.last refl js.all_held js.event;
         waiting = and_from (waits x) (list_all waits js.held) (taken_waits r taken) (held_wait unit c.number place js.held js.all_held);
         decided = ap (λ (v : Event). answer_to stage v js.last.reply) js.event ∙ ap (answer_to stage (events.Judge unit c.number place)) js.reply_is;
       }
