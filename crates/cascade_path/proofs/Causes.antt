@@ -1,6 +1,6 @@
 -- What events decide, wherever they stand.
-use Rattle.std.proofs.Common.{◌≡◌, ℕ, ◌+◌, Bool, true, false, cond, List, [], ◌∷◌, ◌++◌, Option, Some, None, refl, sym, ap, ◌∙◌, arith}
-use Rattle.std.specs.Prelude.{◌&&◌, ◌||◌, nat_le, count_by, option_and_then}
+use Rattle.std.proofs.Common.{◌≡◌, ℕ, ◌+◌, Bool, true, false, cond, List, [], ◌∷◌, ◌++◌, Option, Some, None, refl, ap, ◌∙◌, arith}
+use Rattle.std.specs.Prelude.{◌||◌, nat_le, count_by}
 use Rattle.std.specs.List.{list_all, list_any, last_or}
 use Rattle.std.proofs.lemmas.Bool.{and_parts}
 use Rattle.std.proofs.lemmas.List.Sums.{sum_by-append}
@@ -14,7 +14,7 @@ use Rattle.event_words.specs.declared.reply.Verdict.TheVariants as verdicts
 use Rattle.event_words.specs.declared.record.LoggedEvent.{LoggedEvent}
 use Rattle.cascade_path.specs.declared.chain.ChainReply.{ChainReply}
 use Rattle.cascade_path.specs.declared.chain.ChainReply.TheVariants.{Allowed, Denied, Busy, Open, Odd}
-use Rattle.cascade_path.specs.Answers.{submission_answer, verdict_answer, judgement_answer, answer_to, event_answer, is_some_of, decides, is_allowed}
+use Rattle.cascade_path.specs.Answers.{submission_answer, verdict_answer, judgement_answer, answer_to, event_answer, is_some_of, decides}
 use Rattle.cascade_path.specs.Stages.{is_undecided, waits}
 
 -- ---- lists

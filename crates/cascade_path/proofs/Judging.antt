@@ -5,7 +5,7 @@ use Rattle.event_words.specs.declared.reply.Reply.{Reply}
 use Rattle.event_words.specs.declared.reply.Reply.TheVariants as replies
 use Rattle.event_words.specs.declared.record.LoggedEvent.{LoggedEvent}
 use Rattle.event_words.specs.Events.{caller_of}
-use Rattle.event_words.specs.Records.{judgements, is_held}
+use Rattle.event_words.specs.Records.{is_held}
 use Rattle.event_words.specs.Valid.{IsValidEvent}
 use Rattle.event_words.specs.Word.{word_of}
 use Rattle.shared_log.specs.Callers.{CallerView, AfterCall}

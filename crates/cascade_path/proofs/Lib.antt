@@ -5,3 +5,4 @@ pub mod Judging
 pub mod Causes
 pub mod Stages
 pub mod Passing
+pub mod Rows

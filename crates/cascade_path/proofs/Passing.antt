@@ -1,5 +1,5 @@
 -- The stages of a chain, one after another.
-use Rattle.std.proofs.Common.{◌≡◌, ℕ, suc, ◌+◌, ◌*◌, ◌-◌, ◌<◌, ◌≤◌, Bool, true, false, cond, List, [], ◌∷◌, ◌++◌, length, get_or, drop, length-drop, Option, Some, None, eqb, refl, sym, ap, ◌∙◌, subst, arith, length-append, append_assoc, append-nil, eq-eqb, ne_eqb, add-one}
+use Rattle.std.proofs.Common.{◌≡◌, ℕ, ◌+◌, ◌*◌, ◌<◌, ◌≤◌, Bool, true, false, cond, List, [], ◌∷◌, ◌++◌, length, get_or, drop, length-drop, Option, Some, None, eqb, refl, sym, ap, ◌∙◌, subst, arith, length-append, append_assoc, eq-eqb, ne_eqb, add-one}
 use Rattle.std.specs.Prelude.{◌||◌, count_by, option_and_then}
 use Rattle.std.specs.List.{list_all, list_any, last_or}
 use Rattle.std.proofs.Math.Bool.{or-false}
@@ -15,7 +15,7 @@ use Rattle.shared_log.specs.Callers.{CallerView}
 use Rattle.cascade_path.specs.declared.chain.ChainReply.{ChainReply}
 use Rattle.cascade_path.specs.declared.chain.ChainReply.TheVariants.{Allowed, Denied, Busy, Open, Odd}
 use Rattle.cascade_path.specs.Making.{MakesEvents}
-use Rattle.cascade_path.specs.Answers.{event_answer, is_submission, last_stage, chain_reply, is_allowed, is_denied, is_busy, is_open, is_odd, is_some_of, decides, HasCause}
+use Rattle.cascade_path.specs.Answers.{event_answer, is_submission, last_stage, chain_reply, is_allowed, is_denied, is_busy, is_open, is_odd, is_some_of, decides}
 use Rattle.cascade_path.specs.Chains.{SendsThrough}
 use Rattle.cascade_path.specs.Stages.{PassesStage, allowed_next, waits}
 use Rattle.cascade_path.proofs.Making.{makes_none, makes_both, same_number}

@@ -1,7 +1,5 @@
-use Rattle.std.proofs.Common.{ℕ, ◌-◌, true, refl, sym, ◌∙◌, subst, ap, arith, ◌≡◌, ⊎_elim}
-use Rattle.event_words.specs.declared.access.Access.{Access}
+use Rattle.std.proofs.Common.{ℕ, ◌-◌, true, refl, sym, subst, ap, arith, ◌≡◌, ⊎_elim}
 use Rattle.event_words.specs.declared.event.Event.TheVariants as events
-use Rattle.event_words.specs.declared.reply.Reply.{Reply}
 use Rattle.event_words.specs.Records.{is_taken}
 use Rattle.event_words.specs.Word.{word_of}
 use Rattle.shared_log.specs.Callers.{AfterCall}
