@@ -1,5 +1,5 @@
 -- The events of one stage.
-use Rattle.std.proofs.Common.{◌≡◌, ℕ, ◌+◌, ◌-◌, Bool, true, false, cond, List, [], ◌∷◌, ◌++◌, length, Option, Some, None, refl, sym, ap, ◌∙◌, subst, arith, length-append, append-nil}
+use Rattle.std.proofs.Common.{◌≡◌, ℕ, ◌+◌, ◌-◌, Bool, true, false, cond, List, [], ◌∷◌, ◌++◌, length, Option, Some, None, refl, sym, ap, ◌∙◌, subst, arith, length-append, append-nil, ◌⊎◌, ⊎_elim}
 use Rattle.std.specs.Prelude.{nat_le, count_by}
 use Rattle.std.specs.List.{AllByRecursion, list_all}
 use Rattle.std.proofs.lemmas.Bool.{and_from}
@@ -96,25 +96,37 @@ one_submission u c p x held last first all e =
     omega (arith, count-append is_submission (x ∷ []) (held ++ last ∷ []), count-append is_submission held (last ∷ []), held_submit_none u c p held all)
 
 -- a submission that was taken, and its judgements
-taken_record : (n tries unit place : ℕ) (a : Access) (x : LoggedEvent) (last : Reply) (made : List LoggedEvent) (go : ℕ → List LoggedEvent → Option (List LoggedEvent)) (rest : List LoggedEvent)
-    → x.event ≡ events.Submit unit n a → is_taken x.reply ≡ true → x.place ≡ place → judgements tries (events.Judge unit n place) (made ++ rest) ≡ Some (last, rest)
-    → stage_piece n tries unit go (first_as (events.Submit unit n a) (x ∷ (made ++ rest))) ≡ stage_following go (next_requester last) rest
-taken_record n tries unit place a x last made go rest is taken there judged =
-    ap (stage_piece n tries unit go) (first_as-cons (events.Submit unit n a) x (made ++ rest) is)
-    ∙ ap (λ (t : Bool). cond t (stage_judged go (judgements tries (events.Judge unit n x.place) (made ++ rest))) (Some (made ++ rest))) taken
-    ∙ ap (λ (p : ℕ). stage_judged go (judgements tries (events.Judge unit n p) (made ++ rest))) there
-    ∙ ap (stage_judged go) judged
+taken_record : (stage n tries unit place : ℕ) (a : Access) (x : LoggedEvent) (last : Reply) (made whole : List LoggedEvent) → ((rest : List LoggedEvent) → judgements tries (events.Judge unit n place) (made ++ rest) ≡ Some (last, rest)) → made ≡ whole
+    → x.event ≡ events.Submit unit n a → is_taken x.reply ≡ true → x.place ≡ place → (go : ℕ → List LoggedEvent → Option (List LoggedEvent)) (rest : List LoggedEvent)
+    → stage_piece n tries unit go (first_as (events.Submit unit n a) (x ∷ (whole ++ rest))) ≡ stage_following go (allowed_next (judgement_answer stage place last)) rest
+taken_record stage n tries unit place a x last made whole judged same is taken there go rest =
+    ap (stage_piece n tries unit go) (first_as-cons (events.Submit unit n a) x (whole ++ rest) is)
+    ∙ ap (λ (t : Bool). cond t (stage_judged go (judgements tries (events.Judge unit n x.place) (whole ++ rest))) (Some (whole ++ rest))) taken
+    ∙ ap (λ (p : ℕ). stage_judged go (judgements tries (events.Judge unit n p) (whole ++ rest))) there
+    ∙ ap (λ (l : List LoggedEvent). stage_judged go (judgements tries (events.Judge unit n place) (l ++ rest))) (sym same)
+    ∙ ap (stage_judged go) (judged rest)
+    ∙ ap (λ (o : Option ℕ). stage_following go o rest) (sym (next_is stage place last))
+
+all_judgements : (tries u c p : ℕ) (r : Reply) (made : List LoggedEvent) → ((rest : List LoggedEvent) → judgements tries (events.Judge u c p) (made ++ rest) ≡ Some (r, rest)) → AreJudgements u c p r made
+all_judgements tries u c p r made judged = are_judgements tries u c p r made (ap (judgements tries (events.Judge u c p)) (sym (append-nil made)) ∙ judged [])
+
+last_place : (log words : List ℕ) (w place : ℕ) → log ≡ words ++ w ∷ [] → place ≡ length log - 1 → length words ≡ place
+last_place log words w place is at = let l : length log ≡ length words + 1 = ap length is ∙ length-append words (w ∷ []) in omega arith
+
+last_decides : (stage u c p : ℕ) (x : LoggedEvent) (r : Reply) → x.event ≡ events.Judge u c p → x.reply ≡ r → answer_to stage x.event x.reply ≡ Some (judgement_answer stage p r)
+last_decides stage u c p x r is replied = ap (λ (v : Event). answer_to stage v x.reply) is ∙ ap (answer_to stage (events.Judge u c p)) replied
 
 -- a submission that wasn't
-refused_record : (n tries unit : ℕ) (a : Access) (x : LoggedEvent) (go : ℕ → List LoggedEvent → Option (List LoggedEvent)) (rest : List LoggedEvent)
-    → x.event ≡ events.Submit unit n a → is_taken x.reply ≡ false → stage_piece n tries unit go (first_as (events.Submit unit n a) (x ∷ rest)) ≡ Some rest
-refused_record n tries unit a x go rest is refused =
+refused_record : (n tries unit : ℕ) (a : Access) (x : LoggedEvent) (answer : ChainReply) → x.event ≡ events.Submit unit n a → is_taken x.reply ≡ false → allowed_next answer ≡ None → (go : ℕ → List LoggedEvent → Option (List LoggedEvent)) (rest : List LoggedEvent)
+    → stage_piece n tries unit go (first_as (events.Submit unit n a) (x ∷ rest)) ≡ stage_following go (allowed_next answer) rest
+refused_record n tries unit a x answer is refused none go rest =
     ap (stage_piece n tries unit go) (first_as-cons (events.Submit unit n a) x rest is)
     ∙ ap (λ (t : Bool). cond t (stage_judged go (judgements tries (events.Judge unit n x.place) rest)) (Some rest)) refused
+    ∙ ap (λ (o : Option ℕ). stage_following go o rest) (sym none)
 
 module _ {M S : Type 0} (after : S → ℕ → ℕ → S) (reply : S → ℕ → ℕ → Reply) where
   -- a submission that wasn't taken
-  pub stage_refused : (c d : CallerView M S) (stage unit : ℕ) (a : Access) (tries : ℕ) (r : Reply) (answer : ChainReply) (call : AfterCall after reply c (word_of (events.Submit unit c.number a)) r d) → IsValidEvent (events.Submit unit c.number a)
+  stage_refused : (c d : CallerView M S) (stage unit : ℕ) (a : Access) (tries : ℕ) (r : Reply) (answer : ChainReply) (call : AfterCall after reply c (word_of (events.Submit unit c.number a)) r d) → IsValidEvent (events.Submit unit c.number a)
       → is_taken r ≡ false → submission_answer stage r ≡ Some answer → allowed_next answer ≡ None → PassesStage after reply c stage unit a tries answer d
   stage_refused c d stage unit a tries r answer call valid refused decided none =
       let e : Event = events.Submit unit c.number a in
@@ -123,31 +135,47 @@ module _ {M S : Type 0} (after : S → ℕ → ℕ → S) (reply : S → ℕ →
         last = x;
         adds = makes_one after reply c d e r call valid refl;
         few = omega arith;
-        record_is = λ go rest. refused_record c.number tries unit a x go rest refl refused ∙ ap (λ (o : Option ℕ). stage_following go o rest) (sym none);
+        record_is = refused_record c.number tries unit a x answer refl refused none;
         submissions = refl;
         waiting = refl;
         decided = decided;
       }
 
   -- a submission that was taken, and its judgements
-  pub stage_judged_at : (c d f : CallerView M S) (stage unit : ℕ) (a : Access) (tries place : ℕ) (r last : Reply) (call : AfterCall after reply c (word_of (events.Submit unit c.number a)) r d) → IsValidEvent (events.Submit unit c.number a)
+  stage_judged_at : (c d f : CallerView M S) (stage unit : ℕ) (a : Access) (tries place : ℕ) (r last : Reply) (call : AfterCall after reply c (word_of (events.Submit unit c.number a)) r d) → IsValidEvent (events.Submit unit c.number a)
       → is_taken r ≡ true → place ≡ length d.log - 1 → JudgesUntil after reply d (events.Judge unit d.number place) tries last f → PassesStage after reply c stage unit a tries (judgement_answer stage place last) f
   stage_judged_at c d f stage unit a tries place r last call valid taken at judged =
       let e : Event = events.Submit unit c.number a in
       let x : LoggedEvent = logged_call after reply c e r d call in
       let same : d.number ≡ c.number = ap (λ (v : CallerView M S). v.number) call.same in
       let j : JudgesUntil after reply d (events.Judge unit c.number place) tries last f = subst (λ (n : ℕ). JudgesUntil after reply d (events.Judge unit n place) tries last f) same judged in
-      let words : List ℕ = c.log ++ call.between in
-      let there : x.place ≡ place = (let l : length d.log ≡ length words + 1 = ap length call.log ∙ length-append words (word_of e ∷ []) in omega arith) in
-      let js : AreJudgements unit c.number place last j.made = are_judgements tries unit c.number place last j.made (ap (judgements tries (events.Judge unit c.number place)) (sym (append-nil j.made)) ∙ j.record_is []) in
-      let whole : List LoggedEvent = js.held ++ js.last ∷ [] in record {
+      let there : x.place ≡ place = last_place d.log (c.log ++ call.between) (word_of e) place call.log at in
+      let js : AreJudgements unit c.number place last j.made = all_judgements tries unit c.number place last j.made j.record_is in record {
         earlier = x ∷ js.held;
         last = js.last;
         adds = subst (λ (l : List LoggedEvent). MakesEvents after reply c (x ∷ l) f) js.is (makes_both after reply c d f (x ∷ []) j.made (makes_one after reply c d e r call valid refl) j.adds);
         few = let n = j.few in omega (arith, ap length js.is, length-append js.held (js.last ∷ []));
-        record_is = λ go rest. taken_record c.number tries unit place a x last whole go rest refl taken there (ap (λ (l : List LoggedEvent). judgements tries (events.Judge unit c.number place) (l ++ rest)) (sym js.is) ∙ j.record_is rest)
-          ∙ ap (λ (o : Option ℕ). stage_following go o rest) (sym (next_is stage place last));
+        record_is = taken_record stage c.number tries unit place a x last j.made (js.held ++ js.last ∷ []) j.record_is js.is refl taken there;
         submissions = one_submission unit c.number place x js.held js.last refl js.all_held js.event;
         waiting = and_from (waits x) (list_all waits js.held) (taken_waits r taken) (held_wait unit c.number place js.held js.all_held);
-        decided = ap (λ (v : Event). answer_to stage v js.last.reply) js.event ∙ ap (answer_to stage (events.Judge unit c.number place)) js.reply_is;
+        decided = last_decides stage unit c.number place js.last last js.event js.reply_is;
       }
+
+  -- the same, where the events are said to be of a number that is the caller's
+  own_submission : (c d : CallerView M S) (unit number : ℕ) (a : Access) (r : Reply) → AfterCall after reply c (word_of (events.Submit unit number a)) r d → number ≡ c.number → AfterCall after reply c (word_of (events.Submit unit c.number a)) r d
+  own_submission c d unit number a r call own = subst (λ (n : ℕ). AfterCall after reply c (word_of (events.Submit unit n a)) r d) own call
+
+  own_valid : (c : CallerView M S) (unit number : ℕ) (a : Access) → number ≡ c.number → IsValidEvent (events.Submit unit number a) → IsValidEvent (events.Submit unit c.number a)
+  own_valid c unit number a own valid = subst (λ (n : ℕ). IsValidEvent (events.Submit unit n a)) own valid
+
+  pub passes_refused : (c d : CallerView M S) (stage unit number : ℕ) (a : Access) (tries : ℕ) (r : Reply) (answer : ChainReply) → AfterCall after reply c (word_of (events.Submit unit number a)) r d → number ≡ c.number → IsValidEvent (events.Submit unit number a)
+      → is_taken r ≡ false → submission_answer stage r ≡ Some answer → allowed_next answer ≡ None → PassesStage after reply c stage unit a tries answer d
+  passes_refused c d stage unit number a tries r answer call own valid refused decided none =
+      stage_refused c d stage unit a tries r answer (own_submission c d unit number a r call own) (own_valid c unit number a own valid) refused decided none
+
+  pub passes_judged : (c d f : CallerView M S) (stage unit number : ℕ) (a : Access) (tries place seen : ℕ) (r last : Reply) (answer : ChainReply) → AfterCall after reply c (word_of (events.Submit unit number a)) r d → number ≡ c.number → IsValidEvent (events.Submit unit number a)
+      → (r ≡ replies.Passed) ⊎ (r ≡ replies.Queued) → seen ≡ length d.log → place ≡ seen - 1 → JudgesUntil after reply d (events.Judge unit d.number place) tries last f → answer ≡ judgement_answer stage place last → PassesStage after reply c stage unit a tries answer f
+  passes_judged c d f stage unit number a tries place seen r last answer call own valid taken is at judged decided =
+      subst (λ (x : ChainReply). PassesStage after reply c stage unit a tries x f) (sym decided)
+      (stage_judged_at c d f stage unit a tries place r last (own_submission c d unit number a r call own) (own_valid c unit number a own valid)
+      (⊎_elim (λ e. ap is_taken e) (λ e. ap is_taken e) taken) (at ∙ ap (λ (n : ℕ). n - 1) is) judged)

@@ -39,7 +39,7 @@ returns-in_default g c =
     let e : Event = events.Judge c.args.unit c.args.caller.now.number c.args.place in
     let made = subst (λ (n : ℕ). AfterCall m.after m.reply c.loop-try.caller (word_of (events.Judge c.args.unit n c.args.place)) c.call.result c.call.new.self) c.number.ensures.number c.call.ensures.call in
     record {
-      judges = judging_last m.after m.reply c.args.caller.now c.loop-try.caller c.call.new.self e c.args.tries c.loop-try._try c.call.result c.loop-try.invariant.0 c.loop-try-test.true made
+      judges = judging_last m.after m.reply c.args.caller.now c.loop-try.caller c.call.new.self e c.args.tries c.loop-try._try c.call.result c.loop-try.invariant.0 (omega arith) made
       (record { unit_below = c.requires.unit; caller_below = omega arith }, c.requires.place) refl (held_not c.call.result c.in_default.not-Held);
       caller = c.call.ensures.caller;
     }
@@ -49,7 +49,7 @@ loop-try-preserved g c =
     let m = g.M.Machine in
     let e : Event = events.Judge c.args.unit c.args.caller.now.number c.args.place in
     let made = subst (λ (n : ℕ). AfterCall m.after m.reply c.loop-try.caller (word_of (events.Judge c.args.unit n c.args.place)) c.call.result c.call.new.self) c.number.ensures.number c.call.ensures.call in (
-      judging_held m.after m.reply c.args.caller.now c.loop-try.caller c.call.new.self e c.args.tries c.loop-try._try c.call.result c.loop-try.invariant.0 c.loop-try-test.true made
+      judging_held m.after m.reply c.args.caller.now c.loop-try.caller c.call.new.self e c.args.tries c.loop-try._try c.call.result c.loop-try.invariant.0 (omega arith) made
       (record { unit_below = c.requires.unit; caller_below = omega arith }, c.requires.place) refl c.in-Held.is,
       c.call.ensures.caller,
     )

@@ -30,7 +30,8 @@ pass_stage-requires-clause-left g c =
 pub pass_stage-requires-clause-access : goal.pass_stage-requires-clause-access
 pass_stage-requires-clause-access g c =
     let a = c.requires.access in
-    record { rrid = c.loop-stage.invariant.0.small; shortest = a.shortest; longest = a.longest; below_end = a.below_end }
+    let small = c.loop-stage.invariant.0.small in
+    record { rrid = omega arith; shortest = a.shortest; longest = a.longest; below_end = a.below_end }
 
 pub returns-in_default : goal.returns-in_default
 returns-in_default g c =
