@@ -5,4 +5,5 @@ pub mod Judging
 pub mod Causes
 pub mod Stages
 pub mod Passing
+pub mod LastStage
 pub mod Rows

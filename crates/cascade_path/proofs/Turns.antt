@@ -1,5 +1,5 @@
 -- Judgements that are a whole record of up to some tries: all but the last are held.
-use Rattle.std.proofs.Common.{◌≡◌, ℕ, zero, suc, Bool, true, false, cond, List, [], ◌∷◌, ◌++◌, Option, Some, None, eqb, refl, ap, subst}
+use Rattle.std.proofs.Common.{◌≡◌, ℕ, zero, suc, Bool, true, false, cond, List, [], ◌∷◌, ◌++◌, Option, Some, None, eqb, refl, sym, ap, ◌∙◌, subst, append-nil}
 use Rattle.std.specs.Prelude.{◌&&◌, not, nat_lt}
 use Rattle.std.specs.List.{AllByRecursion}
 use Rattle.std.proofs.lemmas.Bool.{and_parts, eqb-true}
@@ -11,7 +11,7 @@ use Rattle.event_words.specs.declared.record.LoggedEvent.{LoggedEvent}
 use Rattle.event_words.specs.Events.{same_event}
 use Rattle.event_words.specs.Records.{judgements, is_held}
 
-by_bool : {P : Type 0} (b : Bool) → (b ≡ true → P) → (b ≡ false → P) → P
+pub by_bool : {P : Type 0} (b : Bool) → (b ≡ true → P) → (b ≡ false → P) → P
 by_bool true p q = p refl
 by_bool false p q = q refl
 
@@ -73,32 +73,37 @@ one_more u c p r x xs h a = record {
   reply_is = a.reply_is;
 }
 
-just_one : (u c p : ℕ) (r : Reply) (x : LoggedEvent) (xs : List LoggedEvent) → x.event ≡ events.Judge u c p → x.reply ≡ r → xs ≡ [] → AreJudgements u c p r (x ∷ xs)
-just_one u c p r x xs e is none = record {
-  held = [];
-  last = x;
-  is = ap (λ (l : List LoggedEvent). x ∷ l) none;
-  all_held = tt;
-  event = e;
-  reply_is = is;
-}
+just_one : (u c p : ℕ) (r : Reply) (x : LoggedEvent) → x.event ≡ events.Judge u c p → x.reply ≡ r → AreJudgements u c p r (x ∷ [])
+just_one u c p r x e is = record { held = []; last = x; is = refl; all_held = tt; event = e; reply_is = is }
 
-pub are_judgements : (n u c p : ℕ) (r : Reply) (xs : List LoggedEvent) → judgements n (events.Judge u c p) xs ≡ Some (r, []) → AreJudgements u c p r xs
-are_judgements zero u c p r xs h = absurd (let n : None ≡ Some (r, []) = h in cc)
-are_judgements (suc n) u c p r [] h = absurd (let n : None ≡ Some (r, []) = h in cc)
-are_judgements (suc n) u c p r (x ∷ xs) h =
+-- Events that begin with judgements of the submission at a place, and the events after these.
+pub record BeginsWithJudgements (unit caller place : ℕ) (reply : Reply) (xs ys : List LoggedEvent) : Type 0 where
+  pub judged : List LoggedEvent
+  pub is : xs ≡ judged ++ ys
+  pub are : AreJudgements unit caller place reply judged
+
+pub begins_with_judgements : (n u c p : ℕ) (r : Reply) (xs ys : List LoggedEvent) → judgements n (events.Judge u c p) xs ≡ Some (r, ys) → BeginsWithJudgements u c p r xs ys
+begins_with_judgements zero u c p r xs ys h = absurd (let n : None ≡ Some (r, ys) = h in cc)
+begins_with_judgements (suc n) u c p r [] ys h = absurd (let n : None ≡ Some (r, ys) = h in cc)
+begins_with_judgements (suc n) u c p r (x ∷ xs) ys h =
     let e : Event = events.Judge u c p in
     by_bool (same_event e x.event)
     (λ same.
     let is : x.event ≡ e = same_judgement u c p x.event same in
-    let there : judged_as true (is_held x.reply && nat_lt 0 n) n e x xs ≡ Some (r, []) = subst (λ (t : Bool). judged_as t (is_held x.reply && nat_lt 0 n) n e x xs ≡ Some (r, [])) same h in
+    let there : judged_as true (is_held x.reply && nat_lt 0 n) n e x xs ≡ Some (r, ys) = subst (λ (t : Bool). judged_as t (is_held x.reply && nat_lt 0 n) n e x xs ≡ Some (r, ys)) same h in
     by_bool (is_held x.reply && nat_lt 0 n)
     (λ on.
     let parts = and_parts (is_held x.reply) (nat_lt 0 n) on in
-    one_more u c p r x xs (record { event = is; reply = held_reply x.reply parts.0 })
-    (are_judgements n u c p r xs (subst (λ (t : Bool). judged_as true t n e x xs ≡ Some (r, [])) on there)))
+    let more = begins_with_judgements n u c p r xs ys (subst (λ (t : Bool). judged_as true t n e x xs ≡ Some (r, ys)) on there) in
+    let held : IsHeldJudgement u c p x = record { event = is; reply = held_reply x.reply parts.0 } in
+    record { judged = x ∷ more.judged; is = ap (λ (l : List LoggedEvent). x ∷ l) more.is; are = one_more u c p r x more.judged held more.are })
     (λ off.
-    let last : Some (x.reply, xs) ≡ Some (r, []) = subst (λ (t : Bool). judged_as true t n e x xs ≡ Some (r, [])) off there in
-    let both : (let z : Reply × List LoggedEvent = (x.reply, xs) in z) ≡ (r, []) = cc in
-    just_one u c p r x xs is (ap (λ (z : Reply × List LoggedEvent). z.0) both) (ap (λ (z : Reply × List LoggedEvent). z.1) both)))
-    (λ other. absurd (let n : None ≡ Some (r, []) = subst (λ (t : Bool). judged_as t (is_held x.reply && nat_lt 0 n) n e x xs ≡ Some (r, [])) other h in cc))
+    let last : Some (x.reply, xs) ≡ Some (r, ys) = subst (λ (t : Bool). judged_as true t n e x xs ≡ Some (r, ys)) off there in
+    let both : (let z : Reply × List LoggedEvent = (x.reply, xs) in z) ≡ (r, ys) = cc in
+    record { judged = x ∷ []; is = ap (λ (z : Reply × List LoggedEvent). x ∷ z.1) both; are = just_one u c p r x is (ap (λ (z : Reply × List LoggedEvent). z.0) both) }))
+    (λ other. absurd (let n : None ≡ Some (r, ys) = subst (λ (t : Bool). judged_as t (is_held x.reply && nat_lt 0 n) n e x xs ≡ Some (r, ys)) other h in cc))
+
+pub are_judgements : (n u c p : ℕ) (r : Reply) (xs : List LoggedEvent) → judgements n (events.Judge u c p) xs ≡ Some (r, []) → AreJudgements u c p r xs
+are_judgements n u c p r xs h =
+    let b = begins_with_judgements n u c p r xs [] h in
+    subst (AreJudgements u c p r) (sym (b.is ∙ append-nil b.judged)) b.are

@@ -29,9 +29,10 @@ call-requires-clause-left g c =
 pub call-requires-clause-event : goal.call-requires-clause-event
 call-requires-clause-event g c =
     let m = g.M.Machine in
-    let b = c.loop-try.invariant.0 in
-    ((record { unit_below = c.requires.unit; caller_below = omega arith }, c.requires.place),
-    c.number.ensures.number ∙ sym (same_number m.after m.reply c.args.caller.now c.loop-try.caller b.made b.adds))
+    let b = c.loop-try.invariant.0 in (
+      (record { unit_below = c.requires.unit; caller_below = omega arith }, c.requires.place),
+      c.number.ensures.number ∙ sym (same_number m.after m.reply c.args.caller.now c.loop-try.caller b.made b.adds),
+    )
 
 pub returns-in_default : goal.returns-in_default
 returns-in_default g c =
@@ -40,7 +41,7 @@ returns-in_default g c =
     let made = subst (λ (n : ℕ). AfterCall m.after m.reply c.loop-try.caller (word_of (events.Judge c.args.unit n c.args.place)) c.call.result c.call.new.self) c.number.ensures.number c.call.ensures.call in
     record {
       judges = judging_last m.after m.reply c.args.caller.now c.loop-try.caller c.call.new.self e c.args.tries c.loop-try._try c.call.result c.loop-try.invariant.0 (omega arith) made
-      (record { unit_below = c.requires.unit; caller_below = omega arith }, c.requires.place) refl (held_not c.call.result c.in_default.not-Held);
+          (record { unit_below = c.requires.unit; caller_below = omega arith }, c.requires.place) refl (held_not c.call.result c.in_default.not-Held);
       caller = c.call.ensures.caller;
     }
 
@@ -50,7 +51,7 @@ loop-try-preserved g c =
     let e : Event = events.Judge c.args.unit c.args.caller.now.number c.args.place in
     let made = subst (λ (n : ℕ). AfterCall m.after m.reply c.loop-try.caller (word_of (events.Judge c.args.unit n c.args.place)) c.call.result c.call.new.self) c.number.ensures.number c.call.ensures.call in (
       judging_held m.after m.reply c.args.caller.now c.loop-try.caller c.call.new.self e c.args.tries c.loop-try._try c.call.result c.loop-try.invariant.0 (omega arith) made
-      (record { unit_below = c.requires.unit; caller_below = omega arith }, c.requires.place) refl c.in-Held.is,
+          (record { unit_below = c.requires.unit; caller_below = omega arith }, c.requires.place) refl c.in-Held.is,
       c.call.ensures.caller,
     )
 

@@ -38,7 +38,7 @@ returns-in_default g c =
     let m = g.M.Machine in
     record {
       sends = passing_ended m.after m.reply c.args.caller.now c.loop-stage.caller c.pass_stage.new.caller c.args.stages.now c.args.access c.args.tries c.loop-stage.stage c.loop-stage.requester c.pass_stage.result
-      c.loop-stage.invariant.0 c.loop-stage-test.true c.pass_stage.ensures.passes (not_allowed c.pass_stage.result c.in_default.not-Allowed) (no_next c.pass_stage.result c.in_default.not-Allowed);
+          c.loop-stage.invariant.0 c.loop-stage-test.true c.pass_stage.ensures.passes (not_allowed c.pass_stage.result c.in_default.not-Allowed) (no_next c.pass_stage.result c.in_default.not-Allowed);
       caller = c.pass_stage.ensures.caller;
     }
 
@@ -48,7 +48,7 @@ loop-stage-preserved g c =
     let borne : Access = record c.args.access { rrid = c.loop-stage.requester } in
     let allowed = subst (λ (a : ChainReply). PassesStage m.after m.reply c.loop-stage.caller c.loop-stage.stage (get_or c.args.stages.now c.loop-stage.stage 0) borne c.args.tries a c.pass_stage.new.caller) c.in-Allowed.is c.pass_stage.ensures.passes in (
       passing_more m.after m.reply c.args.caller.now c.loop-stage.caller c.pass_stage.new.caller c.args.stages.now c.args.access c.args.tries c.loop-stage.stage c.loop-stage.requester c.in-Allowed.next
-      c.loop-stage.invariant.0 c.loop-stage-test.true (c.pass_stage.ensures.next c.in-Allowed.next c.in-Allowed.is) allowed,
+          c.loop-stage.invariant.0 c.loop-stage-test.true (c.pass_stage.ensures.next c.in-Allowed.next c.in-Allowed.is) allowed,
       λ h. c.pass_stage.ensures.caller,
     )
 
