@@ -3,3 +3,4 @@ pub mod UnitLines
 pub mod Endings
 pub mod PrintingEndings
 pub mod Plays
+pub mod Updates

@@ -10,6 +10,8 @@ pub enum Command {
     Run,
     /// Compiles a policy and prints the script of its image.
     Compile,
+    /// Prints the plan from one policy to another, as a lane.
+    Plan,
 }
 
 /// The command that the words after the program's name are, if they are one.
@@ -19,6 +21,7 @@ pub fn command_in(words: &[String]) -> Option<Command>
     match words {
         [word] if word.as_str() == "run" => Some(Command::Run),
         [word] if word.as_str() == "compile" => Some(Command::Compile),
+        [word] if word.as_str() == "plan" => Some(Command::Plan),
         _ => None,
     }
 }

@@ -1,20 +1,15 @@
 // The printed script of a policy's image.
-ghost use Rattle.std.specs.Prelude.{◌≡◌, map, Some, IfOk};
-ghost use Rattle.std.specs.String.{string_bytes};
+ghost use Rattle.std.specs.Prelude.{◌≡◌, map, IfOk};
 ghost use Rattle.policy_compiler.specs.Policies.{IsPolicy};
-ghost use Rattle.iopmp_program.specs.PolicyLines.{policy_line, need_line};
-ghost use Rattle.iopmp_program.specs.ImageTexts.{HasLine, PrintsPolicy, PrintsImage};
-ghost use Rattle.iopmp_program.specs.Prints.{sink_change, Refuses};
-ghost use Rattle.iopmp_program.specs.Endings.{streams};
-ghost use Rattle.iopmp_program.specs.Compiles.{write_command, image_script, EndsCompile};
+ghost use Rattle.iopmp_program.specs.PolicyLines.{need_line};
+ghost use Rattle.iopmp_program.specs.Givings.{HasLine, GivesText, IsPrinted, IsTooMuch};
+ghost use Rattle.iopmp_program.specs.Compiles.{write_command, image_script, IsCompiled, IsRefused};
 
-use crate::fault_line::too_long_line;
-use crate::policy_lines::{WhichPolicy, need_line, policy_line};
-use crate::program::{MOST_BYTES, refuse, without_history};
-use crate::status::{Outcome, Status};
-use edge_io::{ReadError, Sink, Source, read_all, write_all};
+use crate::policy_lines::{WhichPolicy, need_line};
+use crate::printing::NoText;
+use crate::updating::no_policy;
 use event_words::{Command, Section};
-use policy_compiler::{CompileError, Image, Policy, PolicyError, RegPair, compile, read_policy};
+use policy_compiler::{CompileError, Image, Policy, RegPair, compile, read_policy};
 use script_reader::{Script, print_script};
 use std::alloc::{AllocError, Global};
 

@@ -1,5 +1,5 @@
 // Plans from one policy of an input to the other.
-ghost use Rattle.std.specs.Prelude.{◌≡◌, ◌++◌, ◌≤◌, length, Some, None, IfOk, codes};
+ghost use Rattle.std.specs.Prelude.{◌≡◌, ◌++◌, ◌≤◌, length, false, Some, None, IfOk, codes};
 ghost use Rattle.std.specs.String.{string_bytes};
 ghost use Rattle.script_reader.specs.Printed.{lane_text};
 ghost use Rattle.update_planner.specs.Refusals.{plan_refusal};
@@ -11,7 +11,7 @@ ghost use Rattle.iopmp_program.specs.Givings.{HasLine, GivesText, IsPlanOr, IsRe
 use crate::NoMemory;
 use crate::policy_lines::{WhichPolicy, need_line};
 use crate::printing::NoText;
-use crate::updating::{Update, update};
+use crate::updating::{Update, two_policies};
 use event_words::Section;
 use script_reader::print_lane;
 use std::alloc::{AllocError, Global};
@@ -74,7 +74,7 @@ pub fn plan_text(alloc: Global, bytes: &[u8]) -> Result<Vec<u8>, NoText>
     requires { length bytes.now ≤ 4194304 }
     ensures { GivesText (IsPlanned bytes.now) (IsUpdateRefusal false bytes.now) result }
 {
-    let update = update(alloc, bytes, false)?;
+    let update = two_policies(alloc, bytes, false)?;
     let section = planned(alloc, &update)?;
     let Ok(lane) = print_lane(alloc, 1, &section) else {
         return Err(NoText::NoMemory);

@@ -14,9 +14,9 @@ ghost use Rattle.iopmp_program.specs.Prints.{sink_change, Refuses, RefusesInput,
 
 use crate::NoMemory;
 use crate::command::{Command, command_in};
-use crate::compiling::compile_command;
 use crate::fault_line::{refusal_line, too_long_line, usage_line};
 use crate::playing::play;
+use crate::printing::{Printed, print_command};
 use crate::reports::report;
 use crate::status::{Outcome, Status};
 use checker_workers::Gate;
@@ -159,6 +159,7 @@ pub fn top<R: Threads + Sync, S: Source, K: Sink, G: Gate + Sync>(
     match command_in(words) {
         None => refuse(sink, Status::Usage, usage_line().as_bytes()),
         Some(Command::Run) => run_command(rt, alloc, source, sink, gate),
-        Some(Command::Compile) => compile_command(alloc, source, sink),
+        Some(Command::Compile) => print_command(alloc, Printed::Image, source, sink),
+        Some(Command::Plan) => print_command(alloc, Printed::Plan, source, sink),
     }
 }

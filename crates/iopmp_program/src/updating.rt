@@ -80,14 +80,18 @@ fn policy(alloc: Global, which: WhichPolicy, bytes: &[u8]) -> Result<Policy, NoT
 }
 
 /// The update that the input stands for.
-pub fn update(alloc: Global, bytes: &[u8], with_lanes: bool) -> Result<Update, NoText>
+#[tactic(auto, using(crate::proofs::Updates::old_refused, crate::proofs::Updates::new_refused))]
+pub fn two_policies(alloc: Global, bytes: &[u8], with_lanes: bool) -> Result<Update, NoText>
     requires { length bytes.now ≤ 4194304 }
     ensures update { GivesOr (IsUpdate with_lanes bytes.now) (IsNoUpdate with_lanes bytes.now) result }
     ensures readable { IfOk result IsReadable }
 {
     let text = headed(alloc, bytes, with_lanes)?;
     let old = policy(alloc, WhichPolicy::Old, &text.old)?;
-    let new = policy(alloc, WhichPolicy::New, &text.new)?;
+    let new = match policy(alloc, WhichPolicy::New, &text.new) {
+        Ok(new) => new,
+        Err(error) => return Err(error),
+    };
     let UpdateText {
         polls,
         lanes,

@@ -1,25 +1,25 @@
 -- How the parts end is how the command ends.
 use Rattle.std.proofs.Common.{◌∙◌, Err, ap, sym, subst}
 use Rattle.std.specs.String.{string_bytes}
-use Rattle.iopmp_program.specs.declared.compiling.NoImage.TheVariants.{Refused}
-use Rattle.iopmp_program.specs.Compiles.{IsRefused}
-use Rattle.iopmp_program.specs.ImageTexts.{PrintsImage}
-use Rattle.iopmp_program.proofs.ImageEndings.{long_ends, refused_ends}
-use Rattle.iopmp_program.proofs.compiling.compile_command.Goals as goal
+use Rattle.iopmp_program.specs.declared.printing.NoText.TheVariants.{Refused}
+use Rattle.iopmp_program.specs.Givings.{GivesText, IsText, IsLine}
+use Rattle.iopmp_program.proofs.PrintingEndings.{long_ends, refused_ends}
+use Rattle.iopmp_program.proofs.printing.print_command.Goals as goal
 
 pub returns-in-Err-TooLong : goal.returns-in-Err-TooLong
 returns-in-Err-TooLong g c =
     let given = c.in-Err-TooLong.ensures.given in
-    long_ends _ c.as_bytes.result.now _ _
+    long_ends (IsText c.args.printed) (IsLine c.args.printed) _ c.as_bytes.result.now _ _
     (record { given = (given.0, given.1, given.2.0 (ap Err c.in-Err-TooLong.field-0-is)); line = c.as_bytes.ensures.value ∙ c.too_long_line.ensures })
     c.refuse.ensures
 
 pub returns-in-Err-Refused : goal.returns-in-Err-Refused
 returns-in-Err-Refused g c =
     let line = c.in-Err-Refused.line in
-    let h : PrintsImage (Err (Refused line)) c.deref.result.now = rw c.in-Err-Refused.field-0-is at c.in-Err-Refused.ensures in
-    refused_ends _ c.in-Ok.bytes.items c.as_bytes-in-Err-Refused.result.now _ _
+    let bytes = c.deref.result.now in
+    let h : GivesText (IsText c.args.printed bytes) (IsLine c.args.printed bytes) (Err (Refused line)) = rw c.in-Err-Refused.field-0-is at c.in-Err-Refused.ensures in
+    refused_ends (IsText c.args.printed) (IsLine c.args.printed) _ c.in-Ok.bytes.items c.as_bytes-in-Err-Refused.result.now _ _
     (record { whole = c.in-Ok.ensures.all; end = c.in-Ok.ensures.end; few = c.in-Ok.ensures.within })
-    (subst (λ l. IsRefused c.in-Ok.bytes.items l) (sym c.as_bytes-in-Err-Refused.ensures.value)
-    (subst (λ b. IsRefused b (string_bytes line)) c.deref.ensures.value h))
+    (subst (λ l. IsLine c.args.printed c.in-Ok.bytes.items l) (sym c.as_bytes-in-Err-Refused.ensures.value)
+    (subst (λ b. IsLine c.args.printed b (string_bytes line)) c.deref.ensures.value h))
     c.refuse-in-Err-Refused.ensures
