@@ -1,6 +1,6 @@
 // The command `compile` on whole texts: an image, the first faults of texts, and needs.
 use crate::command::{Command, command_in};
-use crate::compiling::compile_command;
+use crate::printing::{Printed, print_command};
 use crate::status::Status;
 use edge_io::{MemorySink, MemorySource};
 use std::alloc::Global;
@@ -19,7 +19,7 @@ const ONE_GRANT: &str =
 fn compiled(alloc: Global, text: &[u8]) -> Result<(Status, Vec<u8>), Fail> {
     let mut source = MemorySource::new(text.to_vec(alloc)?, Vec::new(alloc), 64);
     let mut sink = MemorySink::new(alloc, 1024, Vec::new(alloc), 64)?;
-    let outcome = compile_command(alloc, &mut source, &mut sink);
+    let outcome = print_command(alloc, Printed::Image, &mut source, &mut sink);
     Ok((outcome.status, sink.taken().to_vec(alloc)?))
 }
 

@@ -16,6 +16,8 @@ mod lane_tests;
 mod layer_tests;
 mod memory;
 mod planning;
+#[cfg(test)]
+mod planning_tests;
 mod playing;
 mod policy_lines;
 mod printing;

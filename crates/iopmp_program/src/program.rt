@@ -10,6 +10,7 @@ ghost use Rattle.iopmp_program.specs.FaultLines.{usage_line};
 ghost use Rattle.iopmp_program.specs.Runs.{IsRun};
 ghost use Rattle.iopmp_program.specs.Endings.{streams, EndsUsage, EndsRun, CompletesRun};
 ghost use Rattle.iopmp_program.specs.Compiles.{EndsCompile, CompletesCompile};
+ghost use Rattle.iopmp_program.specs.PlanTexts.{EndsPlan, CompletesPlan};
 ghost use Rattle.iopmp_program.specs.Prints.{sink_change, Refuses, RefusesInput, Reports};
 
 use crate::NoMemory;
@@ -155,6 +156,11 @@ pub fn top<R: Threads + Sync, S: Source, K: Sink, G: Gate + Sync>(
         EndsCompile (streams (S.left source.old) (S.left source.new) (S.faults source.old) (S.faults source.new) (K.taken sink.old) (K.taken sink.new) (K.faults sink.old) (K.faults sink.new)) result.status result.history }
     ensures compile_completes { command_of (map string_bytes words.now) ≡ Some commands.Compile →
         CompletesCompile (streams (S.left source.old) (S.left source.new) (S.faults source.old) (S.faults source.new) (K.taken sink.old) (K.taken sink.new) (K.faults sink.old) (K.faults sink.new)) result.status }
+
+    ensures plan { command_of (map string_bytes words.now) ≡ Some commands.Plan →
+        EndsPlan (streams (S.left source.old) (S.left source.new) (S.faults source.old) (S.faults source.new) (K.taken sink.old) (K.taken sink.new) (K.faults sink.old) (K.faults sink.new)) result.status result.history }
+    ensures plan_completes { command_of (map string_bytes words.now) ≡ Some commands.Plan →
+        CompletesPlan (streams (S.left source.old) (S.left source.new) (S.faults source.old) (S.faults source.new) (K.taken sink.old) (K.taken sink.new) (K.faults sink.old) (K.faults sink.new)) result.status }
 {
     match command_in(words) {
         None => refuse(sink, Status::Usage, usage_line().as_bytes()),
