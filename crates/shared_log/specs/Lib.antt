@@ -3,6 +3,7 @@ pub mod SeatViews
 pub mod Rule
 pub mod Steps
 pub mod Callers
+pub mod OwnEvents
 pub mod Histories
 pub mod Adding
 pub mod Trials
