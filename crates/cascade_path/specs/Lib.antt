@@ -1,0 +1,4 @@
+pub mod Making
+pub mod Answers
+pub mod Chains
+pub mod Stages
