@@ -107,9 +107,10 @@ fn pass_stage<M: Machine>(
     }
 }
 
-/// Sends an access through 1 to 4 units in turn, each of which is submitted and then judged until the
-/// reply isn't Held, at most `tries` times. The first unit gets the access's own requester, and a later
-/// one the requester that the unit before it allowed. It takes no memory and never waits.
+/// Sends an access through 1 to 4 units in turn. At each it is submitted, and where it is taken it is
+/// judged until the reply isn't Held, at most `tries` times. The first unit sees the access's own
+/// requester, and a later one the requester that the unit before it allowed. It takes no memory and
+/// never waits.
 ///
 /// The caller must belong to the log, each unit be 0 to 3, the access valid, and at least one judgement
 /// be tried. So many events must be left to the caller that each stage may make all its tries.
