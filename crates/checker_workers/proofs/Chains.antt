@@ -1,8 +1,8 @@
 -- An access that a port sends through units: no reply is odd, and no ticket from before ends.
-use Rattle.std.proofs.Common.{◌≡◌, ◌≢◌, ℕ, zero, suc, ◌+◌, ◌-◌, ◌<◌, ◌≤◌, Bool, true, false, cond, List, [], ◌∷◌, ◌++◌, length, get_or, Option, Some, None, refl, sym, ap, ◌∙◌, subst, arith, append_assoc, append-nil, length-append, eqb, ⊎_elim, ◌⊎◌, inl, inr}
-use Rattle.std.specs.Prelude.{◌||◌, nat_le, nat_lt, option_and_then}
+use Rattle.std.proofs.Common.{◌≡◌, ℕ, zero, suc, ◌+◌, ◌-◌, ◌<◌, ◌≤◌, Bool, true, false, cond, List, [], ◌∷◌, ◌++◌, length, get_or, Option, Some, None, refl, sym, ap, ◌∙◌, subst, arith, append_assoc, append-nil, length-append, eqb, ⊎_elim}
+use Rattle.std.specs.Prelude.{nat_lt, option_and_then}
 use Rattle.std.specs.List.{AllByRecursion, list_any, last_or}
-use Rattle.std.proofs.lemmas.Bool.{or_from, and_left, and_right, le-leb}
+use Rattle.std.proofs.lemmas.Bool.{or_from, and_right, le-leb}
 use Rattle.std.proofs.lemmas.List.Folds.{list_any-append}
 use Rattle.event_words.specs.declared.access.Access.{Access}
 use Rattle.event_words.specs.declared.event.Event.{Event}
@@ -29,10 +29,10 @@ use Rattle.cascade_path.specs.Chains.{SendsThrough}
 use Rattle.cascade_path.proofs.Causes.{last-append}
 use Rattle.cascade_path.proofs.LastStage.{LastStage, EndsRefused, EndsJudged, last_stage_of}
 use Rattle.cascade_path.proofs.Turns.{by_bool, IsHeldJudgement, AreJudgements, BeginsWithJudgements, begins_with_judgements}
-use Rattle.checker_workers.specs.Ports.{PortView, AreAtReset, MakesEvent, own_events, unit_count}
+use Rattle.checker_workers.specs.Ports.{PortView, AreAtReset, MakesEvent, unit_count}
 use Rattle.checker_workers.specs.TicketViews.{TicketView}
 use Rattle.checker_workers.specs.Tickets.{IsOpenTicket, is_end, last_ticket}
-use Rattle.checker_workers.specs.Pieces.{MakesEvents, PlaysThrough}
+use Rattle.checker_workers.specs.Pieces.{PlaysThrough}
 use Rattle.checker_workers.proofs.Among.{Extends, extends, StandsAmong, stands}
 use Rattle.checker_workers.proofs.Making.{answers, is_submit_reply, submit_reply}
 use Rattle.checker_workers.proofs.NextRequesters.{allowed_next}
@@ -104,30 +104,42 @@ module _ (p q : PortView) (all : AllEventWords q.log) where
       (and_right (nat_lt t.place x.place) _ (and_right (same_event (judgement t) x.event) (is_verdict x.reply) (ap is_verdict h.0.reply)))
       (none_held t xs h.1)
 
+  -- The ticket of a submission that was taken is open right after it.
+  ticket_opened : (before later : Events) (x : LoggedEvent) (unit : ℕ) (a : Access) (s : StandsAmong p q before x later) → MakesEvent s.at (events.Submit unit p.number a) x.reply s.next → is_taken x.reply ≡ true
+      → IsOpenTicket s.next (record { unit = unit; place = x.place; caller = p.number })
+  ticket_opened before later x unit a s made taken =
+      let m : MakesEvent s.at (events.Submit unit s.at.number a) x.reply s.next = subst (λ (n : ℕ). MakesEvent s.at (events.Submit unit n a) x.reply s.next) (sym s.number) made in
+      let number : s.next.number ≡ p.number = ap (λ (v : PortView). v.number) m.same ∙ s.number in
+      let last : length s.next.log - 1 ≡ x.place = let l = s.place in omega arith in
+      let is_ticket : last_ticket s.next unit ≡ record { unit = unit; place = x.place; caller = p.number } =
+      ap (λ (n : ℕ). record { unit = unit; place = n; caller = s.next.number }) last ∙ ap (λ (n : ℕ). record { unit = unit; place = x.place; caller = n }) number in
+      subst (IsOpenTicket s.next) is_ticket (new_ticket s.at s.next unit a x.reply m taken)
+
+  -- A judgement of it after others that were held is no odd one.
+  judgement_plain : (before later held : Events) (x y : LoggedEvent) (unit stage : ℕ) (a : Access) (s : StandsAmong p q before x later) (z : StandsAmong s.next q held y []) → AreAtReset p.first
+      → MakesEvent s.at (events.Submit unit p.number a) x.reply s.next → is_taken x.reply ≡ true → AllByRecursion (IsHeldJudgement unit p.number x.place) held → y.event ≡ events.Judge unit p.number x.place
+      → is_odd (judgement_answer stage x.place y.reply) ≡ false
+  judgement_plain before later held x y unit stage a s z reset made taken all_held event =
+      let t : TicketView = record { unit = unit; place = x.place; caller = p.number } in
+      let still : IsOpenTicket z.at t = ticket_kept s.next z.at held t z.own z.number (none_held t held all_held) (ticket_opened before later x unit a s made taken) in
+      let first : z.at.first ≡ p.first = z.first ∙ ap (λ (v : PortView). v.first) made.same ∙ s.first in
+      let at_reset : AreAtReset z.at.first = subst AreAtReset (sym first) reset in
+      let j : MakesEvent z.at (judgement t) y.reply z.next = subst (λ (e : Event). MakesEvent z.at e y.reply z.next) event z.event in
+      let valid : IsValidEvent (judgement t) = subst IsValidEvent event z.valid in
+      plain_judgement stage x.place y.reply (open_reply z.at z.next t y.reply j at_reset z.all valid still)
+      (λ next allowed. allowed_next z.at z.next unit p.number x.place next (subst (λ (v : Reply). MakesEvent z.at (judgement t) v z.next) allowed j) at_reset z.all valid)
+
   -- The last of the judgements of a submission that was taken is the last event.
   judged_plain : (made before judged : Events) (x : LoggedEvent) (unit : ℕ) (a : Access) (r : Reply) (answer : ChainReply) → Extends p made q → AreAtReset p.first → made ≡ before ++ x ∷ judged → x.event ≡ events.Submit unit p.number a → is_taken x.reply ≡ true
       → AreJudgements unit p.number x.place r judged → chain_reply made ≡ Some answer → is_odd answer ≡ false
   judged_plain made before judged x unit a r answer h reset is event taken are decided =
       let y : LoggedEvent = are.last in
-      let t : TicketView = record { unit = unit; place = x.place; caller = p.number } in
       let s : StandsAmong p q before x judged = stands p q before x judged (subst (λ (l : Events). Extends p l q) is h) all in
-      let m : MakesEvent s.at (events.Submit unit s.at.number a) x.reply s.next =
-      subst (λ (n : ℕ). MakesEvent s.at (events.Submit unit n a) x.reply s.next) (sym s.number) (subst (λ (e : Event). MakesEvent s.at e x.reply s.next) event s.event) in
-      let number : s.next.number ≡ p.number = ap (λ (v : PortView). v.number) m.same ∙ s.number in
-      let last : length s.next.log - 1 ≡ x.place = let l = s.place in omega arith in
-      let is_ticket : last_ticket s.next unit ≡ t =
-      ap (λ (n : ℕ). record { unit = unit; place = n; caller = s.next.number }) last ∙ ap (λ (n : ℕ). record { unit = unit; place = x.place; caller = n }) number in
-      let opened : IsOpenTicket s.next t = subst (IsOpenTicket s.next) is_ticket (new_ticket s.at s.next unit a x.reply m taken) in
       let z : StandsAmong s.next q are.held y [] = stands s.next q are.held y [] (subst (λ (l : Events). Extends s.next l q) are.is s.more) all in
-      let still : IsOpenTicket z.at t = ticket_kept s.next z.at are.held t z.own z.number (none_held t are.held are.all_held) opened in
-      let first : z.at.first ≡ p.first = z.first ∙ ap (λ (v : PortView). v.first) m.same ∙ s.first in
-      let at_reset : AreAtReset z.at.first = subst AreAtReset (sym first) reset in
-      let j : MakesEvent z.at (judgement t) y.reply z.next = subst (λ (e : Event). MakesEvent z.at e y.reply z.next) are.event z.event in
-      let valid : IsValidEvent (judgement t) = subst IsValidEvent are.event z.valid in
+      let m : MakesEvent s.at (events.Submit unit p.number a) x.reply s.next = subst (λ (e : Event). MakesEvent s.at e x.reply s.next) event s.event in
       last_decides made (before ++ x ∷ are.held) y answer (is ∙ ap (λ (l : Events). before ++ x ∷ l) are.is ∙ sym (append_assoc before (x ∷ are.held) (y ∷ []))) decided
       ∙ ap (λ (e : Event). is_some_of is_odd (answer_to (last_stage made) e y.reply)) are.event
-      ∙ plain_judgement (last_stage made) x.place y.reply (open_reply z.at z.next t y.reply j at_reset z.all valid still)
-      (λ next allowed. allowed_next z.at z.next unit p.number x.place next (subst (λ (v : Reply). MakesEvent z.at (judgement t) v z.next) allowed j) at_reset z.all valid)
+      ∙ judgement_plain before judged are.held x y unit (last_stage made) a s z reset m taken are.all_held are.event
 
   never_odd : (max : ℕ) (a : Access) (stages : List ℕ) (made : Events) (answer : ChainReply) → Extends p made q → AreAtReset p.first → AllByRecursion (IsBelow (unit_count p)) stages
       → through_stages p.number max a stages a.rrid made ≡ Some [] → chain_reply made ≡ Some answer → is_odd answer ≡ false

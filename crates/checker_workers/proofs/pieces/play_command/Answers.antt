@@ -1,7 +1,6 @@
-use Rattle.std.proofs.Common.{false, not, refl, sym, ap, subst, ◌∙◌, if◌then◌else◌}
+use Rattle.std.proofs.Common.{false, not, refl, sym, subst}
 use Rattle.event_words.specs.declared.reply.Reply.TheVariants as replies
 use Rattle.event_words.specs.declared.section.Command.{Command}
-use Rattle.event_words.specs.Sections.{is_submit}
 use Rattle.checker_workers.specs.Pieces.{PlaysCommand}
 use Rattle.checker_workers.proofs.Commands.{plays_write, plays_read, plays_submit_as, plays_until, plays_through}
 use Rattle.checker_workers.proofs.pieces.play_command.Goals as goal
