@@ -1,5 +1,6 @@
 -- What each command adds to the record of a section.
-use Rattle.std.proofs.Common.{◌≡◌, ℕ, ◌-◌, ◌<◌, ◌≤◌, Bool, false, not, List, [], ◌∷◌, ◌++◌, length, get_or, set, Option, Some, None, refl, sym, ap, ◌∙◌, subst, arith, length-append}
+use Rattle.std.proofs.Common.{◌≡◌, ℕ, zero, suc, ◌+◌, ◌-◌, ◌*◌, ◌<◌, ◌≤◌, Bool, false, not, List, [], ◌∷◌, ◌++◌, length, take, get_or, set, Option, Some, None, refl, sym, ap, ◌∙◌, subst, arith, length-append}
+use Rattle.std.proofs.Math.Nat.{mul-le-mul_right}
 use Rattle.std.proofs.lemmas.List.{set-get_or}
 use Rattle.event_words.specs.declared.access.Access.{Access}
 use Rattle.event_words.specs.declared.event.Event.{Event}
@@ -10,9 +11,11 @@ use Rattle.event_words.specs.declared.reply.Verdict.{Verdict}
 use Rattle.event_words.specs.declared.record.LoggedEvent.{LoggedEvent}
 use Rattle.event_words.specs.declared.section.Command.{Command}
 use Rattle.event_words.specs.declared.section.Command.TheVariants as commands
+use Rattle.event_words.specs.declared.section.Stages.{Stages}
 use Rattle.event_words.specs.Word.{word_of}
-use Rattle.event_words.specs.Records.{OpenSlot, Cut, one_piece, submit_piece, settle_piece, settled, until_piece, opened_slot, slot_of, judgements}
-use Rattle.event_words.specs.Sections.{NamesUnits}
+use Rattle.event_words.specs.Records.{OpenSlot, Cut, one_piece, submit_piece, settle_piece, settled, until_piece, through_piece, opened_slot, slot_of, judgements}
+use Rattle.event_words.specs.Sections.{NamesUnits, stage_units}
+use Rattle.cascade_path.specs.declared.chain.ChainReply.{ChainReply}
 use Rattle.checker_workers.specs.declared.ticket.Submitted.{Submitted}
 use Rattle.checker_workers.specs.declared.ticket.Submitted.TheVariants as submitted
 use Rattle.checker_workers.specs.declared.ticket.Judged.TheVariants.{Done, Held}
@@ -20,7 +23,7 @@ use Rattle.checker_workers.specs.Ports.{PortView, MakesEvent, unit_count}
 use Rattle.checker_workers.specs.TicketViews.{TicketView}
 use Rattle.checker_workers.specs.Tickets.{IsOpenTicket, HandsOut, submitted_reply, last_ticket}
 use Rattle.checker_workers.specs.Slots.{slots_of, slot_of_ticket, IsJudgeable, IsTicketTable}
-use Rattle.checker_workers.specs.Pieces.{Polls, SettlesTicket, PlaysSlot, PlaysCommand, cut_to, ticket_of}
+use Rattle.checker_workers.specs.Pieces.{Polls, SettlesTicket, PlaysThrough, PlaysSlot, PlaysCommand, cut_to, ticket_of}
 use Rattle.checker_workers.proofs.Repeats.{first_as-cons}
 use Rattle.checker_workers.proofs.Tables.{slot_of-slots, slots_of-append, slots_of-set, set_back, table_without, table_kept, table_back, table_pushed, others_apart, IsNewSlot}
 use Rattle.checker_workers.proofs.Turns.{made_by, makes_none, makes_one, ends_other, none_more}
@@ -170,4 +173,24 @@ plays_until p q table unit index mask value max hit s h = record {
   few = s.few;
   record_is = λ rest. ap (until_piece (slots_of table)) (s.record_is rest);
   tickets = table_kept p q s.made table s.adds (λ i t e. s.others t) h;
+}
+
+-- ---- accesses that are sent through units
+
+few_taken : (n : ℕ) (units : List ℕ) → length (take n units) ≤ n
+few_taken zero units = omega arith
+few_taken (suc n) [] = omega arith
+few_taken (suc n) (u ∷ us) = let h = few_taken n us in omega arith
+
+-- the events of as many stages as stand
+pub few_stages : (stages : Stages) (max : ℕ) → length (stage_units stages) * (1 + max) ≤ stages.count * (1 + max)
+few_stages stages max = mul-le-mul_right (1 + max) (few_taken stages.count stages.units)
+
+pub plays_through : (p q : PortView) (table : Table) (stages : Stages) (a : Access) (max : ℕ) (answer : ChainReply) → PlaysThrough p (stage_units stages) a max answer q → IsTicketTable p table → PlaysCommand p table (commands.Through stages a max) q table false
+plays_through p q table stages a max answer s h = record {
+  made = s.made;
+  adds = s.adds;
+  few = let few = s.few in let most = few_stages stages max in omega arith;
+  record_is = λ rest. ap (through_piece (slots_of table)) (s.record_is rest);
+  tickets = table_kept p q s.made table s.adds (λ i t e. s.others t (h.each i t e).past) h;
 }

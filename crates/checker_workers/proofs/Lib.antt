@@ -5,6 +5,9 @@ pub mod Standing
 pub mod Judging
 pub mod Tables
 pub mod Turns
+pub mod Among
+pub mod NextRequesters
+pub mod Chains
 pub mod Commands
 pub mod Playing
 pub mod Crossing

@@ -92,7 +92,7 @@ is_submit_reply replies.Busy = true
 is_submit_reply (replies.Stalled denial) = true
 is_submit_reply _ = false
 
-abbrev submit_on : ℕ → UnitState → ℕ → Access → Bool → Bool → Bool → UnitState × Reply
+abbrev pub submit_on : ℕ → UnitState → ℕ → Access → Bool → Bool → Bool → UnitState × Reply
 submit_on k u c a x y z =
     if x then (opened k c a false u, replies.Passed)
     else (if y then (opened k c a true u, replies.Queued)

@@ -69,7 +69,7 @@ ends_other u x h = and_right (nat_lt u.place x.place) _ (and_left (same_event (j
 pub none_more : (u : TicketView) (made : List LoggedEvent) (x : LoggedEvent) → list_any (is_end u) made ≡ false → is_end u x ≡ false → list_any (is_end u) (made ++ x ∷ []) ≡ false
 none_more u made x h e = list_any-append (is_end u) made (x ∷ []) ∙ or_from (list_any (is_end u) made) _ h (or_from (is_end u x) false e refl)
 
-other_place : (u t : TicketView) → (u.place ≡ t.place → ⊥) → same_event (judgement u) (judgement t) ≡ false
+pub other_place : (u t : TicketView) → (u.place ≡ t.place → ⊥) → same_event (judgement u) (judgement t) ≡ false
 other_place u t ne = and_right (u.unit == t.unit) _ (and_right (u.caller == t.caller) (u.place == t.place) (ne_eqb u.place t.place ne))
 
 -- ---- reads until one hits

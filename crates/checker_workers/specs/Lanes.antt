@@ -1,11 +1,9 @@
 -- Lanes: a section that a port's caller plays once.
-use Rattle.std.specs.Prelude.{◌≡◌, ℕ, ◌≤◌, Bool, true, false, Option, Some, List, []}
-use Rattle.std.specs.List.{AllByRecursion}
+use Rattle.std.specs.Prelude.{◌≡◌, ℕ, ◌≤◌, Option, Some, List, []}
 use Rattle.event_words.specs.declared.record.LoggedEvent.{LoggedEvent}
 use Rattle.event_words.specs.declared.record.SectionEnd.{SectionEnd}
 use Rattle.event_words.specs.declared.record.SectionEnd.TheVariants as ends
 use Rattle.event_words.specs.declared.section.Command.{Command}
-use Rattle.event_words.specs.declared.section.Command.TheVariants.{Through}
 use Rattle.event_words.specs.Records.{section_end, end_from}
 use Rattle.event_words.specs.Sections.{SectionOf, IsValidSection, NamesOnlyUnits, events_of}
 use Rattle.checker_workers.specs.declared.lane.LaneEnd.{LaneEnd}

@@ -1,12 +1,15 @@
 -- What the commands of a lane make.
-use Rattle.std.specs.Prelude.{◌≡◌, ◌≢◌, ℕ, ◌+◌, ◌≤◌, Bool, false, Option, Some, None, List, ◌++◌, length}
+use Rattle.std.specs.Prelude.{◌≡◌, ◌≢◌, ℕ, ◌+◌, ◌*◌, ◌<◌, ◌≤◌, Bool, false, Option, Some, None, List, ◌++◌, length}
 use Rattle.std.specs.List.{list_any}
+use Rattle.event_words.specs.declared.access.Access.{Access}
 use Rattle.event_words.specs.declared.event.Event.{Event}
 use Rattle.event_words.specs.declared.event.Event.TheVariants as events
 use Rattle.event_words.specs.declared.record.LoggedEvent.{LoggedEvent}
 use Rattle.event_words.specs.declared.section.Command.{Command}
 use Rattle.event_words.specs.Sections.{most_events}
-use Rattle.event_words.specs.Records.{judgements, polls, piece, settle_piece, slot_of, Cut}
+use Rattle.event_words.specs.Records.{judgements, polls, piece, settle_piece, slot_of, through_stages, Cut}
+use Rattle.cascade_path.specs.declared.chain.ChainReply.{ChainReply}
+use Rattle.cascade_path.specs.Answers.{chain_reply, is_odd}
 use Rattle.checker_workers.specs.declared.ticket.Judged.{Judged}
 use Rattle.checker_workers.specs.declared.ticket.Submitted.{Submitted}
 use Rattle.checker_workers.specs.declared.ticket.Submitted.TheVariants.{Passed, Queued, Busy, Stalled}
@@ -38,6 +41,17 @@ pub record Polls (p : PortView) (event : Event) (mask value max : ℕ) (hit : Bo
   pub few : length made ≤ max
   pub record_is : (rest : List LoggedEvent) → polls max event mask value (made ++ rest) ≡ Some (hit, rest)
   pub others : (u : TicketView) → list_any (is_end u) made ≡ false
+
+-- The events of an access that is sent through these units, with up to `max` judgements at each. They
+-- tell the answer, which is never odd, and they end no ticket of a submission before them.
+pub record PlaysThrough (p : PortView) (stages : List ℕ) (access : Access) (max : ℕ) (answer : ChainReply) (q : PortView) : Type 0 where
+  pub made : List LoggedEvent
+  pub adds : MakesEvents p made q
+  pub few : length made ≤ length stages * (1 + max)
+  pub record_is : (rest : List LoggedEvent) → through_stages p.number max access stages access.rrid (made ++ rest) ≡ Some rest
+  pub decided : chain_reply made ≡ Some answer
+  pub never_odd : is_odd answer ≡ false
+  pub others : (u : TicketView) → u.place < length p.log → list_any (is_end u) made ≡ false
 
 abbrev pub cut_to : List (Option TicketView) → Bool → List LoggedEvent → Cut
 cut_to table stops rest = record { slots = slots_of table; rest = rest; stops = stops }

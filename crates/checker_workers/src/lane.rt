@@ -73,7 +73,7 @@ impl Lane {
 
     /// Plays the section on the shared log. The lane must be fresh and its port's caller belong to
     /// the log. The caller makes a whole record of the section, and the lane ends `Stopped` exactly
-    /// where all reads of an `until` missed. The gate is called before each event and at the end.
+    /// where all reads of an `until` missed. The gate is called as `Gate` says.
     pub fn run<G: Gate>(&mut self, shared: &Shared, gate: &G)
         requires fresh { self.old.ended ≡ ends.Fresh }
         requires belongs { Belongs self.old.port shared.now }

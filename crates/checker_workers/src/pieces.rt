@@ -15,6 +15,7 @@ ghost use Rattle.checker_workers.specs.Lanes.{IsPlain};
 use crate::gate::Gate;
 use crate::port::Port;
 use crate::ticket::{Judged, Submitted, Ticket};
+use cascade_path::ChainReply;
 use event_words::{Access, Command};
 use shared_log::Shared;
 
@@ -203,6 +204,16 @@ pub(crate) fn play_command<G: Gate>(
             };
             poll(port, shared, gate, first, watch, max)
         }
-        Command::Through { .. } => true,
+        Command::Through {
+            stages,
+            access,
+            max,
+        } => {
+            tell(gate, port, first);
+            match port.send_through(shared, &stages, access, max) {
+                ChainReply::Odd { .. } => unreachable!(),
+                _ => true,
+            }
+        }
     }
 }

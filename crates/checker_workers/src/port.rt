@@ -1,16 +1,20 @@
 // One caller's calls on the units, one event each.
-ghost use Rattle.std.specs.Prelude.{◌≡◌, ◌<◌, ◌≤◌, ◌^◌, length, true};
+ghost use Rattle.std.specs.Prelude.{◌≡◌, ◌+◌, ◌*◌, ◌<◌, ◌≤◌, ◌^◌, length, true};
+ghost use Rattle.std.specs.List.{AllByRecursion};
 ghost use Rattle.event_words.specs.declared.event.Event.TheVariants as events;
 ghost use Rattle.event_words.specs.declared.reply.Reply.TheVariants as replies;
 ghost use Rattle.event_words.specs.Valid.{IsValidAccess, IsValidEvent};
 ghost use Rattle.event_words.specs.Events.{caller_of};
+ghost use Rattle.event_words.specs.Sections.{IsBelow, IsValidStages, stage_units};
 ghost use Rattle.shared_log.specs.Words.{AllEventWords};
 ghost use Rattle.shared_log.specs.Callers.{Belongs};
 ghost use Rattle.checker_workers.specs.Ports.{AreAtReset, MakesEvent, unit_count, is_value};
 ghost use Rattle.checker_workers.specs.Tickets.{IsOpenTicket, Judges, HandsOut, submitted_reply, last_ticket};
+ghost use Rattle.checker_workers.specs.Pieces.{PlaysThrough};
 
 use crate::ticket::{Judged, Submitted, Ticket};
-use event_words::{Access, Event, Reply};
+use cascade_path::{ChainReply, send_through};
+use event_words::{Access, Event, Reply, Stages};
 use shared_log::{Caller, Shared};
 use std::marker::Model;
 use unit_core::Fabric;
@@ -169,6 +173,27 @@ impl Port {
             Reply::Verdict(verdict) => Judged::Done(verdict),
             _ => Judged::Held(ticket),
         }
+    }
+
+    // Sends an access through units in turn, with up to `max` judgements at each. It is the one call
+    // that makes more than one event. The units are there, so the answer is never odd.
+    pub(crate) fn send_through(
+        &mut self,
+        shared: &Shared,
+        stages: &Stages,
+        access: Access,
+        max: u32,
+    ) -> ChainReply
+        requires belongs { Belongs self.old shared.now }
+        requires stages { IsValidStages stages.now }
+        requires units { AllByRecursion (IsBelow (unit_count self.old)) (stage_units stages.now) }
+        requires access { IsValidAccess access }
+        requires max { 1 ≤ max }
+        requires left { stages.now.count * (1 + max) ≤ self.old.left }
+        ensures { PlaysThrough self.old (stage_units stages.now) access max result self.new }
+    {
+        let units = &stages.units[..stages.count as usize];
+        send_through(&mut self.caller, shared, units, access, max)
     }
 }
 
