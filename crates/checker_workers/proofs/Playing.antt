@@ -15,7 +15,7 @@ use Rattle.checker_workers.specs.Ports.{PortView, unit_count}
 use Rattle.checker_workers.specs.TicketViews.{TicketView}
 use Rattle.checker_workers.specs.Slots.{slots_of, IsTicketTable}
 use Rattle.checker_workers.specs.Pieces.{MakesEvents, PlaysCommand, cut_to}
-use Rattle.checker_workers.specs.Lanes.{IsPlain, PlaysCommands}
+use Rattle.checker_workers.specs.Lanes.{PlaysCommands}
 use Rattle.checker_workers.proofs.Tables.{table_empty}
 use Rattle.checker_workers.proofs.Turns.{makes_none, makes_both, same_number, same_count}
 
@@ -30,20 +30,18 @@ pub record Playing (p : PortView) (all : List Command) (i : ℕ) (q : PortView) 
   pub tickets : IsTicketTable q table
   pub valid : AreValidCommands count (drop i all)
   pub units : AllByRecursion (NamesUnits (unit_count p)) (drop i all)
-  pub plain : AllByRecursion IsPlain (drop i all)
   pub enough : sum_by most_events (drop i all) ≤ q.left
   pub room : count + count_by is_submit (drop i all) ≤ capacity
 
-pub playing_none : (p : PortView) (all : List Command) (table : Table) (count capacity : ℕ) → table ≡ [] → count ≡ 0 → AreValidCommands 0 all → AllByRecursion (NamesUnits (unit_count p)) all → AllByRecursion IsPlain all
+pub playing_none : (p : PortView) (all : List Command) (table : Table) (count capacity : ℕ) → table ≡ [] → count ≡ 0 → AreValidCommands 0 all → AllByRecursion (NamesUnits (unit_count p)) all
     → sum_by most_events all ≤ p.left → count_by is_submit all ≤ capacity → Playing p all 0 p table count capacity
-playing_none p all table count capacity empty zeroth valid units plain enough room = record {
+playing_none p all table count capacity empty zeroth valid units enough room = record {
   made = [];
   adds = makes_none p;
   so_far = λ rest. ap (λ (ts : Table). end_from p.number all (slots_of ts) rest) (sym empty);
   tickets = subst (IsTicketTable p) (sym empty) (table_empty p);
   valid = subst (λ (n : ℕ). AreValidCommands n all) (sym zeroth) valid;
   units = units;
-  plain = plain;
   enough = enough;
   room = omega arith;
 }
@@ -57,7 +55,6 @@ next_command all i d h = drop-cons all i d h ∙ ap (λ (n : ℕ). get_or all i 
 pub record MayBeNext (q : PortView) (command : Command) (count capacity : ℕ) : Type 0 where
   pub valid : IsValidCommand count command
   pub units : NamesUnits (unit_count q) command
-  pub plain : IsPlain command
   pub enough : most_events command ≤ q.left
   pub room : is_submit command ≡ true → count < capacity
 
@@ -68,7 +65,6 @@ pub may_be_next : (p q : PortView) (all : List Command) (i : ℕ) (table : Table
 may_be_next p q all i table count capacity command b e = record {
   valid = (subst (AreValidCommands count) e b.valid).0;
   units = subst (λ (n : ℕ). NamesUnits n command) (sym (same_count p q b.made b.adds)) (subst (AllByRecursion (NamesUnits (unit_count p))) e b.units).0;
-  plain = (subst (AllByRecursion IsPlain) e b.plain).0;
   enough = let s = subst (λ (cs : List Command). sum_by most_events cs ≤ q.left) e b.enough in omega (arith, sum_by-cons most_events command (drop (i + 1) all));
   room = λ t. let s = subst (λ (cs : List Command). count + count_by is_submit cs ≤ capacity) e b.room in omega (arith, submits_one command (drop (i + 1) all) t);
 }
@@ -97,7 +93,6 @@ playing_next p q s all i table after count capacity count' capacity' command b e
   tickets = k.tickets;
   valid = subst (λ (n : ℕ). AreValidCommands n (drop (i + 1) all)) (sym counts) (subst (AreValidCommands count) e b.valid).1;
   units = (subst (AllByRecursion (NamesUnits (unit_count p))) e b.units).1;
-  plain = (subst (AllByRecursion IsPlain) e b.plain).1;
   enough = let t = subst (λ (cs : List Command). sum_by most_events cs ≤ q.left) e b.enough in let f = k.few in let l = k.adds.left in omega (arith, sum_by-cons most_events command (drop (i + 1) all));
   room = let t = counted command (drop (i + 1) all) count capacity (subst (λ (cs : List Command). count + count_by is_submit cs ≤ capacity) e b.room) in omega arith;
 }

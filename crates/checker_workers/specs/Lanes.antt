@@ -19,23 +19,11 @@ pub record LaneView : Type 0 where
   pub port : PortView
   pub ended : LaneEnd
 
-abbrev pub is_through : Command → Bool
-is_through (Through stages access max) = true
-is_through _ = false
-
-abbrev pub IsPlain : Command → Type 0
-IsPlain command = is_through command ≡ false
-
--- No command of the section sends an access through units.
-abbrev pub HasNoThrough : SectionOf → Type 0
-HasNoThrough section = AllByRecursion IsPlain section.commands
-
 -- What a section needs of the port that plays it.
 pub record MayPlay (section : SectionOf) (p : PortView) : Type 0 where
   pub valid : IsValidSection section
   pub units : NamesOnlyUnits (unit_count p) section
   pub enough : events_of section ≤ p.left
-  pub plain : HasNoThrough section
 
 -- A fresh lane may be played, with room for its tickets.
 pub record IsReady (section : SectionOf) (p : PortView) (table : List (Option TicketView)) (room : ℕ) : Type 0 where

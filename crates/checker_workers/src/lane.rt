@@ -4,7 +4,7 @@ ghost use Rattle.std.specs.List.{AllByRecursion};
 ghost use Rattle.event_words.specs.Sections.{AreValidCommands, NamesUnits, most_events, is_submit};
 ghost use Rattle.shared_log.specs.Callers.{Belongs};
 ghost use Rattle.checker_workers.specs.Ports.{unit_count};
-ghost use Rattle.checker_workers.specs.Lanes.{IsPlain, MayPlay, PlaysCommands, Runs};
+ghost use Rattle.checker_workers.specs.Lanes.{MayPlay, PlaysCommands, Runs};
 ghost use Rattle.checker_workers.specs.declared.lane.LaneEnd.TheVariants as ends;
 
 use crate::gate::Gate;
@@ -53,8 +53,8 @@ impl Model for Lane {
 }
 
 impl Lane {
-    /// A fresh lane. The section must be valid, name only units of the port, have no more events than
-    /// are left to the port's caller, and send no access through units. All memory is taken here.
+    /// A fresh lane. The section must be valid, name only units of the port and have no more events than
+    /// are left to the port's caller. All memory is taken here.
     pub fn new(alloc: Global, section: Section, port: Port) -> Result<Lane, NoMemory>
         requires { MayPlay section port }
         ensures { IfOk result (λ lane. lane ≡ record { section = section; port = port; ended = ends.Fresh }) }
@@ -116,7 +116,6 @@ fn play_commands<G: Gate>(
     requires belongs { Belongs port.old shared.now }
     requires valid { AreValidCommands 0 commands.now }
     requires units { AllByRecursion (NamesUnits (unit_count port.old)) commands.now }
-    requires plain { AllByRecursion IsPlain commands.now }
     requires enough { sum_by most_events commands.now ≤ port.old.left }
     requires empty { (table.old.items ≡ []) × (vec_len table.old ≡ 0) }
     requires room { count_by is_submit commands.now ≤ vec_capacity table.old }

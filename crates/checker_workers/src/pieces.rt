@@ -10,7 +10,6 @@ ghost use Rattle.checker_workers.specs.Ports.{unit_count};
 ghost use Rattle.checker_workers.specs.Tickets.{IsOpenTicket};
 ghost use Rattle.checker_workers.specs.Slots.{IsTicketTable};
 ghost use Rattle.checker_workers.specs.Pieces.{Polls, SettlesTicket, PlaysSlot, PlaysCommand, ticket_of};
-ghost use Rattle.checker_workers.specs.Lanes.{IsPlain};
 
 use crate::gate::Gate;
 use crate::port::Port;
@@ -157,7 +156,6 @@ pub(crate) fn play_command<G: Gate>(
     requires first { port.old.left ≤ first }
     requires valid { IsValidCommand (vec_len table.old) command }
     requires units { NamesUnits (unit_count port.old) command }
-    requires plain { IsPlain command }
     requires room { is_submit command ≡ true → vec_len table.old < vec_capacity table.old }
     requires tickets { IsTicketTable port.old table.old.items }
     ensures plays { PlaysCommand port.old table.old.items command port.new table.new.items (not result) }

@@ -4,7 +4,7 @@ use Rattle.checker_workers.proofs.lane.play_commands.Goals as goal
 
 pub loop-command-init : goal.loop-command-init
 loop-command-init g c = record {
-  playing = playing_none c.args.port.now c.args.commands.now c.args.table.now.items _ _ c.requires.empty.0 c.requires.empty.1 c.requires.valid c.requires.units c.requires.plain c.requires.enough c.requires.room;
+  playing = playing_none c.args.port.now c.args.commands.now c.args.table.now.items _ _ c.requires.empty.0 c.requires.empty.1 c.requires.valid c.requires.units c.requires.enough c.requires.room;
   first = c.left-first.ensures;
 }
 
