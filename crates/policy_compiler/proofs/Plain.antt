@@ -52,7 +52,7 @@ pub record IsPlain (h : Shape) (w : RegPair) : Type 0 where
   pub inside : w.index < index_count h
   pub even : h.srcmd ≡ 0 → (s : ℕ) → s < 64 → w.index ≡ 1024 + 8 * s → w.value % 2 ≡ 0
 
-set_even : (ws : List ℕ) (i j v : ℕ) → get_or ws j 0 % 2 ≡ 0 → (i ≡ j → v % 2 ≡ 0) → get_or (set ws i v) j 0 % 2 ≡ 0
+pub set_even : (ws : List ℕ) (i j v : ℕ) → get_or ws j 0 % 2 ≡ 0 → (i ≡ j → v % 2 ≡ 0) → get_or (set ws i v) j 0 % 2 ≡ 0
 set_even ws i j v old new = ⊎_elim
     (λ (e : j ≡ i). ⊎_elim
     (λ (below : i < length ws). rw (e, get_or-set_same ws i v 0 below) (new (sym e)))
