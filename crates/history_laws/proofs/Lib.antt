@@ -18,3 +18,4 @@ pub mod Examples
 pub mod LengthLaw
 pub mod OneRecord
 pub mod OneHistoryLaw
+pub mod QuietRecords

@@ -7,3 +7,4 @@ pub mod Busy
 pub mod Laws
 pub mod Lengths
 pub mod OneHistory
+pub mod Live
