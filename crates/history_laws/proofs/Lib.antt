@@ -19,3 +19,6 @@ pub mod LengthLaw
 pub mod OneRecord
 pub mod OneHistoryLaw
 pub mod QuietRecords
+pub mod WriteRecords
+pub mod Writes
+pub mod UnitStands
