@@ -22,3 +22,4 @@ pub mod QuietRecords
 pub mod WriteRecords
 pub mod Writes
 pub mod UnitStands
+pub mod LiveLists
