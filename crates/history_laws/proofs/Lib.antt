@@ -23,3 +23,5 @@ pub mod WriteRecords
 pub mod Writes
 pub mod UnitStands
 pub mod LiveLists
+pub mod PlanParts
+pub mod LivePlaces
