@@ -25,3 +25,4 @@ pub mod UnitStands
 pub mod LiveLists
 pub mod PlanParts
 pub mod LivePlaces
+pub mod LiveLaw
