@@ -1,0 +1,4 @@
+pub mod Puts
+pub mod Order
+pub mod Sections
+pub mod Images
