@@ -26,3 +26,5 @@ pub mod LiveLists
 pub mod PlanParts
 pub mod LivePlaces
 pub mod LiveLaw
+pub mod TableRewrites
+pub mod LiveUpdate

@@ -28,7 +28,7 @@ use Rattle.policy_compiler.specs.Images.{pair, image_of}
 use Rattle.policy_compiler.specs.Laws.{kind_of}
 use Rattle.policy_compiler.specs.Decides.{policy_decision}
 use Rattle.policy_compiler.proofs.Plain.{IsPlain}
-use Rattle.policy_compiler.proofs.Standing.{value_from, value_of, value_append, value_other, Stands, IsTame, IsNext, AreNext}
+use Rattle.policy_compiler.proofs.Standing.{value_from, value_of, value_append, value_other, Stands, IsRewrite, IsTame, IsNext, AreNext}
 use Rattle.policy_compiler.proofs.Decisive.{SameValues, decides_standing, image_next, image_enables}
 use Rattle.unit_core.specs.Units.{UnitState, event_step, is_stalled}
 use Rattle.unit_core.specs.Histories.{History, units_at, state_at, event_at, reply_at}
@@ -48,10 +48,6 @@ use Rattle.history_laws.proofs.PlanParts.{writes_in, writes_both, of_none, own_b
 use Rattle.history_laws.proofs.LivePlaces.{IsLogOf, idle_hits, none_drained, not_drained, past_boot, among_others, writes_upto, writes_whole}
 
 -- ---- the writes of tables
-
--- a write of the number of priority entries, or of a table
-abbrev pub IsRewrite : Shape → RegPair → Type 0
-IsRewrite h w = ((w.index ≡ 4) × (w.value < 2 ^ 16)) ⊎ IsPlain h w
 
 -- Writes that bring what the old ones left to what the new ones leave.
 pub record Rewrites (h : Shape) (old new tables : List RegPair) : Type 0 where

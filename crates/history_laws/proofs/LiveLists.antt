@@ -21,7 +21,7 @@ use Rattle.policy_compiler.specs.Commands.{write_command}
 use Rattle.unit_core.specs.Units.{UnitState, unit_at_reset}
 use Rattle.unit_core.specs.Fabrics.{state_after_word, reply_to_word}
 use Rattle.unit_core.specs.Histories.{IsBoot, IsOfLane, BootComesFirst, HasRecord, HaveRecords, IsLegalHistory, with_event, events_of_words, logged_in}
-use Rattle.history_laws.specs.Live.{IsQuiet}
+use Rattle.history_laws.specs.Live.{IsQuiet, IsQuietSection}
 use Rattle.history_laws.proofs.EventWords.{word_event}
 use Rattle.history_laws.proofs.QuietRecords.{IsNoWrite, WritesNothing, WriteNothing, quiet_record}
 use Rattle.history_laws.proofs.Writes.{write_of, writes, writes_append, append_nothing, all_parts, all_both, all_passing, all_each}
@@ -125,9 +125,6 @@ some_of (Some a) h = (a, refl)
 if_there : {A : Type 0} {P : Type 0} (o : Option A) → IfSome o (λ a. P) → IsSome o → P
 if_there None f h = absurd (let n : false ≡ true = h in cc)
 if_there (Some a) f h = f
-
-abbrev IsQuietSection : SectionOf → Type 0
-IsQuietSection s = AllByRecursion IsQuiet s.commands
 
 lanes_quiet : (xs : List LoggedEvent) (i : ℕ) (ss : List SectionOf) → HaveRecords xs i ss → AllByRecursion IsQuietSection ss → (c : ℕ) → i ≤ c → c < i + length ss → WriteNothing (events_by c xs)
 lanes_quiet xs i [] records q c l u = absurd (omega arith)

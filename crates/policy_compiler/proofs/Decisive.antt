@@ -1,6 +1,6 @@
 -- Registers whose last written values are those of an image decide as its policy does.
-use Rattle.std.proofs.Common.{◌≡◌, ℕ, ◌+◌, ◌^◌, ◌<◌, ◌≤◌, inl, inr, Bool, true, false, ◌==◌, ltb, List, [], ◌∷◌, ◌++◌, Option, Some, None, cond, arith, refl, sym, ap, ◌∙◌, subst}
-use Rattle.std.proofs.lemmas.Bool.{cond_both}
+use Rattle.std.proofs.Common.{◌≡◌, ℕ, ◌+◌, ◌^◌, ◌<◌, ◌≤◌, ◌⊎◌, inl, inr, Bool, true, false, ◌==◌, ltb, List, [], ◌∷◌, ◌++◌, Option, Some, None, cond, arith, refl, sym, ap, ◌∙◌, subst}
+use Rattle.std.specs.List.{AllByRecursion}
 use Rattle.std.proofs.lemmas.Bool.Decides.{nat_tests}
 use Rattle.event_words.specs.declared.shape.Shape.{Shape}
 use Rattle.event_words.specs.declared.access.Access.{Access}
@@ -21,7 +21,7 @@ use Rattle.policy_compiler.proofs.Fits.{count_append}
 use Rattle.policy_compiler.proofs.Plain.{ArePlain}
 use Rattle.policy_compiler.proofs.Compiled.{HasRoom, room_of, table_writes, last_of, plain_tables, writes_split, after_is}
 use Rattle.policy_compiler.proofs.Alike.{IsAlike, guards_of_policy, decides_alike}
-use Rattle.policy_compiler.proofs.Standing.{value_from, value_of, value_append, value_same, value_other, Stands, IsTame, IsNext, AreNext, stands_written}
+use Rattle.policy_compiler.proofs.Standing.{value_from, value_of, value_append, value_same, value_other, Stands, IsRewrite, IsTame, IsNext, AreNext, stands_written}
 
 -- ---- a policy that compiles has room
 
@@ -92,6 +92,24 @@ pub image_next : (p : PolicyOf) → IsPolicy p → need_refusal p ≡ None → A
 image_next p good h =
     let r = room p good h in
     subst (AreNext p.shape []) (sym (image_writes p)) (writes_next p.shape (guards_of_policy p) (hardware p.domains) r (few_guards p r))
+
+-- each of the tables' number, of a table, or of HWCFG0
+abbrev pub IsImageWrite : Shape → RegPair → Type 0
+IsImageWrite h w = IsRewrite h w ⊎ (w.index ≡ 2)
+
+tables_each : (h : Shape) (ws : List RegPair) → ArePlain h ws → AllByRecursion (IsImageWrite h) (ws ++ pair 2 1 ∷ [])
+tables_each h [] plain = (inr refl, tt)
+tables_each h (w ∷ ws) plain = (inl (inr plain.0), tables_each h ws plain.1)
+
+pub image_each : (p : PolicyOf) → IsPolicy p → need_refusal p ≡ None → AllByRecursion (IsImageWrite p.shape) (image_of p).writes
+image_each p good h =
+    let r = room p good h in
+    subst (AllByRecursion (IsImageWrite p.shape)) (sym (image_writes p ∙ writes_split p.shape (guards_of_policy p) (hardware p.domains)))
+    (inl (inl (refl, few_guards p r)), tables_each p.shape (table_writes p.shape (hardware p.domains)) (plain_tables p.shape (hardware p.domains) r))
+
+pub image_shape : (p : PolicyOf) → (image_of p).shape ≡ p.shape
+unfolding image_of
+image_shape p = refl
 
 -- ---- what decides
 

@@ -197,7 +197,11 @@ stands_enable h ps r good z c =
 
 -- ---- the writes of images and updates
 
--- of the number of priority entries, of MDSTALL, or of a table
+-- of the number of priority entries, or of a table
+abbrev pub IsRewrite : Shape → RegPair → Type 0
+IsRewrite h w = ((w.index ≡ 4) × (w.value < 2 ^ 16)) ⊎ IsPlain h w
+
+-- or of MDSTALL
 abbrev pub IsTame : Shape → RegPair → Type 0
 IsTame h w = ((w.index ≡ 4) × (w.value < 2 ^ 16)) ⊎ ((w.index ≡ 12) ⊎ IsPlain h w)
 
