@@ -1,8 +1,8 @@
 -- A live update: the old policy decides up to the drained reading, and the new one after the release.
-use Rattle.std.proofs.Common.{◌≡◌, ℕ, zero, suc, ◌+◌, ◌-◌, ◌^◌, ◌<◌, ◌≤◌, ◌++◌, ◌==◌, not, inl, inr, ◌⊎◌, Bool, true, false, ltb, cond, List, [], ◌∷◌, Option, Some, None, length, map, take, drop, append_assoc, refl, sym, ap, subst, ◌∙◌, arith, ⊎_elim}
+use Rattle.std.proofs.Common.{◌≡◌, ℕ, suc, ◌+◌, ◌-◌, ◌<◌, ◌≤◌, ◌++◌, ◌==◌, not, inl, inr, true, false, ltb, cond, List, [], ◌∷◌, Some, None, length, map, take, drop, append_assoc, refl, sym, ap, subst, ◌∙◌, arith, ⊎_elim}
 use Rattle.std.specs.Prelude.{slice_get, option_map}
 use Rattle.std.specs.List.{AllByRecursion}
-use Rattle.std.proofs.lemmas.Bool.{cases_lt, cases_eq, eq-eqb, eqb-true}
+use Rattle.std.proofs.lemmas.Bool.{cases_lt, eqb-true}
 use Rattle.std.proofs.lemmas.Bool.Decides.{nat_tests}
 use Rattle.event_words.specs.declared.shape.Shape.{Shape}
 use Rattle.event_words.specs.declared.access.Access.{Access}
@@ -11,7 +11,6 @@ use Rattle.event_words.specs.declared.event.Event.TheVariants.{RegWrite, RegRead
 use Rattle.event_words.specs.declared.reply.Reply.TheVariants as replies
 use Rattle.event_words.specs.declared.reply.Decision.{Decision}
 use Rattle.event_words.specs.declared.reply.Decision.TheVariants as decisions
-use Rattle.event_words.specs.declared.reply.Verdict.{Verdict as AnyVerdict}
 use Rattle.event_words.specs.declared.record.LoggedEvent.{LoggedEvent}
 use Rattle.event_words.specs.Registers.{Registers}
 use Rattle.event_words.specs.Events.{caller_of}
@@ -20,28 +19,27 @@ use Rattle.event_words.specs.Guards.{is_enabled}
 use Rattle.event_words.specs.Domains.{is_known}
 use Rattle.event_words.specs.Decisions.{decision, violation, by_touching, first_touching}
 use Rattle.event_words.specs.Valid.{IsValidAccess}
-use Rattle.event_words.specs.Records.{hits, is_by, events_by}
+use Rattle.event_words.specs.Records.{is_by, events_by}
 use Rattle.policy_compiler.specs.declared.image.RegPair.{RegPair}
-use Rattle.policy_compiler.specs.Policies.{PolicyOf, IsPolicy, IsPolicyShape}
+use Rattle.policy_compiler.specs.Policies.{PolicyOf, IsPolicy}
 use Rattle.policy_compiler.specs.Needs.{need_refusal}
 use Rattle.policy_compiler.specs.Images.{pair, image_of}
 use Rattle.policy_compiler.specs.Laws.{kind_of}
 use Rattle.policy_compiler.specs.Decides.{policy_decision}
-use Rattle.policy_compiler.proofs.Plain.{IsPlain}
-use Rattle.policy_compiler.proofs.Standing.{value_from, value_of, value_append, value_other, Stands, IsRewrite, IsTame, IsNext, AreNext}
+use Rattle.policy_compiler.proofs.Standing.{value_from, value_of, value_append, value_other, Stands, IsRewrite, IsTame, AreNext}
 use Rattle.policy_compiler.proofs.Decisive.{SameValues, decides_standing, image_next, image_enables}
 use Rattle.unit_core.specs.Units.{UnitState, event_step, is_stalled}
 use Rattle.unit_core.specs.Histories.{History, units_at, state_at, event_at, reply_at}
 use Rattle.unit_core.specs.Updates.{ReadsDrained, IsDrainedReading, IsUpdateWrite, IsRelease}
-use Rattle.unit_core.specs.Windows.{is_flagged, IsInDrainedWindow, IsVerdictOn}
-use Rattle.history_laws.specs.Verdicts.{verdict_of, decided, IsDecided}
-use Rattle.history_laws.specs.Live.{kind_of_verdict, FollowsPolicies, IsByPolicies, KeepsPolicies}
+use Rattle.unit_core.specs.Windows.{is_flagged}
+use Rattle.history_laws.specs.Verdicts.{verdict_of}
+use Rattle.history_laws.specs.Live.{kind_of_verdict, KeepsPolicies}
 use Rattle.history_laws.proofs.Runs.{own_state, own_at, shape_there}
 use Rattle.history_laws.proofs.WindowLaw.{law_windows}
 use Rattle.history_laws.proofs.VerdictLaw.{law_verdicts}
 use Rattle.history_laws.proofs.QuietRecords.{IsNoWrite, WritesNothing}
-use Rattle.history_laws.proofs.Writes.{write_of, writes, append_nothing, take_map, all_before, all_from, all_parts, all_filter}
-use Rattle.history_laws.proofs.WriteRecords.{event_of, IsPlanRecord, stall, free}
+use Rattle.history_laws.proofs.Writes.{writes, append_nothing, take_map, all_before, all_from, all_parts, all_filter}
+use Rattle.history_laws.proofs.WriteRecords.{event_of, stall, free}
 use Rattle.history_laws.proofs.UnitStands.{UnitStands, IsOnZero, unit_stands}
 use Rattle.history_laws.proofs.LiveLists.{IsLive, IsLoggedOnZero}
 use Rattle.history_laws.proofs.PlanParts.{writes_in, writes_both, of_none, own_before, own_from, own_cut, own_here, still_some, write_there, IsUpdate, plan_writes, NotDrained, before_reading, at_reading, AreNot, value_kept, some_writes, part_stalls}

@@ -1,30 +1,29 @@
 -- What the list of events of a live update is: the old image's writes, and then the events of lanes, of
 -- which the first alone writes.
-use Rattle.std.proofs.Common.{◌≡◌, ℕ, zero, suc, ◌+◌, ◌<◌, ◌≤◌, ◌++◌, ◌==◌, inl, inr, ◌⊎◌, Bool, true, false, eqb, cond, List, [], ◌∷◌, Option, Some, None, length, map, filter, refl, sym, ap, subst, ◌∙◌, arith, ⊎_elim}
+use Rattle.std.proofs.Common.{◌≡◌, ℕ, suc, ◌+◌, ◌<◌, ◌≤◌, ◌++◌, inl, inr, ◌⊎◌, Bool, true, false, cond, List, [], ◌∷◌, Option, Some, None, length, map, filter, refl, sym, ap, subst, ◌∙◌, arith, ⊎_elim}
 use Rattle.std.specs.Prelude.{IsSome, IfSome}
 use Rattle.std.specs.List.{AllByRecursion}
-use Rattle.std.proofs.lemmas.Bool.{cases_eq, cases_lt, eq-eqb, ne_eqb, eqb-true}
+use Rattle.std.proofs.lemmas.Bool.{cases_eq, cases_lt, eq-eqb, ne_eqb}
 use Rattle.std.proofs.lemmas.List.Elements.{filter-append}
 use Rattle.event_words.specs.declared.shape.Shape.{Shape}
 use Rattle.event_words.specs.declared.event.Event.{Event}
 use Rattle.event_words.specs.declared.event.Event.TheVariants.{RegWrite, RegRead, Submit, Judge}
-use Rattle.event_words.specs.declared.reply.Reply.{Reply}
 use Rattle.event_words.specs.declared.record.LoggedEvent.{LoggedEvent}
-use Rattle.event_words.specs.Word.{word_of, event_at as event_of_word}
+use Rattle.event_words.specs.Word.{event_at as event_of_word}
 use Rattle.event_words.specs.Events.{caller_of}
 use Rattle.event_words.specs.Runs.{bearer, IsEventWord, logged_from, logged_first}
 use Rattle.event_words.specs.Sections.{SectionOf}
-use Rattle.event_words.specs.Records.{section_end, end_from, events_by, is_by}
+use Rattle.event_words.specs.Records.{end_from, events_by, is_by}
 use Rattle.event_words.proofs.Runs.{bearer-word_of}
 use Rattle.policy_compiler.specs.declared.image.RegPair.{RegPair}
 use Rattle.policy_compiler.specs.Commands.{write_command}
 use Rattle.unit_core.specs.Units.{UnitState, unit_at_reset}
 use Rattle.unit_core.specs.Fabrics.{state_after_word, reply_to_word}
-use Rattle.unit_core.specs.Histories.{IsBoot, IsOfLane, BootComesFirst, HasRecord, HaveRecords, IsLegalHistory, with_event, events_of_words, logged_in}
-use Rattle.history_laws.specs.Live.{IsQuiet, IsQuietSection}
+use Rattle.unit_core.specs.Histories.{IsBoot, IsOfLane, BootComesFirst, HaveRecords, IsLegalHistory, with_event, events_of_words, logged_in}
+use Rattle.history_laws.specs.Live.{IsQuietSection}
 use Rattle.history_laws.proofs.EventWords.{word_event}
 use Rattle.history_laws.proofs.QuietRecords.{IsNoWrite, WritesNothing, WriteNothing, quiet_record}
-use Rattle.history_laws.proofs.Writes.{write_of, writes, writes_append, append_nothing, all_parts, all_both, all_passing, all_each}
+use Rattle.history_laws.proofs.Writes.{append_nothing, all_parts, all_both, all_passing, all_each}
 use Rattle.history_laws.proofs.UnitStands.{IsOnZero}
 use Rattle.history_laws.proofs.WriteRecords.{write_by, event_of, IsDrainRead, IsPlanRecord, plan_of, plan_record, writes_record, free}
 

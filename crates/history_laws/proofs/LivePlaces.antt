@@ -1,11 +1,10 @@
 -- The places of a live update's history.
-use Rattle.std.proofs.Common.{◌≡◌, ℕ, zero, suc, ◌+◌, ◌-◌, ◌/◌, ◌%◌, ◌^◌, ◌<◌, ◌≤◌, ◌++◌, ◌==◌, ◌&&◌, inl, inr, ◌⊎◌, Bool, true, false, bit_and, cond, List, [], ◌∷◌, Option, Some, None, length, map, take, drop, refl, sym, ap, subst, ◌∙◌, arith, ⊎_elim}
+use Rattle.std.proofs.Common.{◌≡◌, ℕ, zero, suc, ◌+◌, ◌/◌, ◌%◌, ◌^◌, ◌<◌, ◌≤◌, ◌++◌, ◌==◌, ◌&&◌, inl, inr, ◌⊎◌, Bool, true, false, bit_and, List, [], ◌∷◌, Option, Some, None, length, map, take, refl, sym, ap, subst, ◌∙◌, arith, ⊎_elim}
 use Rattle.std.specs.Prelude.{slice_get}
 use Rattle.std.specs.List.{AllByRecursion}
 use Rattle.std.proofs.Math.Seq.{take-append-add}
 use Rattle.std.proofs.lemmas.Nat.{and_mask}
 use Rattle.std.proofs.lemmas.Bool.{cases_lt, eqb-true, eq-eqb, and_parts, and_from}
-use Rattle.std.proofs.lemmas.Bool.Decides.{nat_tests}
 use Rattle.event_words.specs.declared.shape.Shape.{Shape}
 use Rattle.event_words.specs.declared.event.Event.{Event}
 use Rattle.event_words.specs.declared.event.Event.TheVariants as events
@@ -21,8 +20,8 @@ use Rattle.unit_core.specs.Histories.{History, event_at, reply_at, history_of, l
 use Rattle.unit_core.specs.Updates.{ReadsDrained, IsDrainedReading}
 use Rattle.history_laws.proofs.WordHistories.{is_entry, has_entry}
 use Rattle.history_laws.proofs.QuietRecords.{WritesNothing, IsNoWrite}
-use Rattle.history_laws.proofs.Writes.{writes, all_parts, all_get, get_append, get_low}
-use Rattle.history_laws.proofs.WriteRecords.{write_by, event_of, IsDrainRead, Misses, same_read}
+use Rattle.history_laws.proofs.Writes.{writes, all_get, get_append, get_low}
+use Rattle.history_laws.proofs.WriteRecords.{write_by, event_of, same_read}
 use Rattle.history_laws.proofs.LiveLists.{IsLive, events_logged}
 use Rattle.history_laws.proofs.PlanParts.{writes_in, writes_both, writes_by, of_one, own_before, NotDrained}
 

@@ -1,11 +1,10 @@
 -- The writes of tables of a plan bring what the old image left to what the new one leaves.
-use Rattle.std.proofs.Common.{◌≡◌, ℕ, zero, suc, ◌+◌, ◌*◌, ◌%◌, ◌^◌, ◌<◌, ◌≤◌, ◌++◌, ◌==◌, not, ◌&&◌, ◌||◌, inl, inr, ◌⊎◌, Bool, true, false, cond, List, [], ◌∷◌, Option, Some, None, map, filter, refl, sym, ap, subst, ◌∙◌, arith, ⊎_elim}
+use Rattle.std.proofs.Common.{◌≡◌, ℕ, zero, suc, ◌+◌, ◌<◌, ◌≤◌, ◌++◌, ◌==◌, not, ◌&&◌, ◌||◌, inl, inr, Bool, true, false, cond, List, [], ◌∷◌, Option, Some, None, map, filter, refl, sym, ap, subst, ◌∙◌, arith, ⊎_elim}
 use Rattle.std.specs.Prelude.{is_some, unwrap_or}
 use Rattle.std.specs.List.{AllByRecursion, range_with_len}
 use Rattle.std.specs.Option.{option_or}
 use Rattle.std.proofs.lemmas.Bool.{cases_eq, cases_lt, eq-eqb, ne_eqb, eqb-true, eqb-false}
 use Rattle.event_words.specs.declared.shape.Shape.{Shape}
-use Rattle.event_words.specs.declared.section.Command.{Command}
 use Rattle.event_words.specs.declared.section.Command.TheVariants.{Write, Until}
 use Rattle.event_words.specs.Registers.{index_count}
 use Rattle.policy_compiler.specs.declared.image.RegPair.{RegPair}
@@ -13,7 +12,6 @@ use Rattle.policy_compiler.specs.Policies.{PolicyOf, IsPolicy}
 use Rattle.policy_compiler.specs.Needs.{need_refusal}
 use Rattle.policy_compiler.specs.Images.{ImageOf, pair, image_of}
 use Rattle.policy_compiler.specs.Commands.{write_command}
-use Rattle.policy_compiler.proofs.Plain.{IsPlain}
 use Rattle.policy_compiler.proofs.Standing.{value_from, value_of, IsRewrite}
 use Rattle.policy_compiler.proofs.Decisive.{IsImageWrite, image_each, image_shape, image_enables}
 use Rattle.update_planner.specs.Plans.{written_value, is_written, is_rewritten, rewrite, rewrites, plan_commands}

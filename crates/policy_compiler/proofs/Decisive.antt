@@ -1,27 +1,25 @@
 -- Registers whose last written values are those of an image decide as its policy does.
-use Rattle.std.proofs.Common.{◌≡◌, ℕ, ◌+◌, ◌^◌, ◌<◌, ◌≤◌, ◌⊎◌, inl, inr, Bool, true, false, ◌==◌, ltb, List, [], ◌∷◌, ◌++◌, Option, Some, None, cond, arith, refl, sym, ap, ◌∙◌, subst}
+use Rattle.std.proofs.Common.{◌≡◌, ℕ, ◌^◌, ◌<◌, ◌≤◌, ◌⊎◌, inl, inr, Bool, true, false, ◌==◌, ltb, List, [], ◌∷◌, ◌++◌, Option, Some, None, cond, arith, refl, sym, ap, ◌∙◌, subst}
 use Rattle.std.specs.List.{AllByRecursion}
 use Rattle.std.proofs.lemmas.Bool.Decides.{nat_tests}
 use Rattle.event_words.specs.declared.shape.Shape.{Shape}
 use Rattle.event_words.specs.declared.access.Access.{Access}
 use Rattle.event_words.specs.Valid.{IsValidAccess}
-use Rattle.event_words.specs.Registers.{Registers, word_at, at_reset}
-use Rattle.event_words.specs.Guards.{is_enabled}
+use Rattle.event_words.specs.Registers.{Registers, word_at}
 use Rattle.event_words.specs.Decisions.{decision}
 use Rattle.policy_compiler.specs.declared.image.CompileError.{CompileError}
-use Rattle.policy_compiler.specs.declared.image.CompileError.TheVariants.{TooManyDomains, TooManyEntries}
 use Rattle.policy_compiler.specs.declared.image.RegPair.{RegPair}
-use Rattle.policy_compiler.specs.Policies.{PolicyOf, IsPolicy, IsPolicyShape}
+use Rattle.policy_compiler.specs.Policies.{PolicyOf, IsPolicy}
 use Rattle.policy_compiler.specs.declared.read.rules.RuleKind.TheVariants.{Guards, Grants}
 use Rattle.policy_compiler.specs.Images.{HardwareOf, pair, hardware, hardware_of, writes_of, image_of}
 use Rattle.policy_compiler.specs.Needs.{need_domains, need_entries, need_refusal}
-use Rattle.policy_compiler.specs.Laws.{after_writes, kind_of}
+use Rattle.policy_compiler.specs.Laws.{kind_of}
 use Rattle.policy_compiler.specs.Decides.{policy_decision}
 use Rattle.policy_compiler.proofs.Fits.{count_append}
 use Rattle.policy_compiler.proofs.Plain.{ArePlain}
-use Rattle.policy_compiler.proofs.Compiled.{HasRoom, room_of, table_writes, last_of, plain_tables, writes_split, after_is}
-use Rattle.policy_compiler.proofs.Alike.{IsAlike, guards_of_policy, decides_alike}
-use Rattle.policy_compiler.proofs.Standing.{value_from, value_of, value_append, value_same, value_other, Stands, IsRewrite, IsTame, IsNext, AreNext, stands_written}
+use Rattle.policy_compiler.proofs.Compiled.{HasRoom, room_of, table_writes, plain_tables, writes_split, after_is}
+use Rattle.policy_compiler.proofs.Alike.{guards_of_policy, decides_alike}
+use Rattle.policy_compiler.proofs.Standing.{value_from, value_of, value_same, value_other, Stands, IsRewrite, AreNext, stands_written}
 
 -- ---- a policy that compiles has room
 

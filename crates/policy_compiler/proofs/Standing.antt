@@ -1,6 +1,6 @@
 -- What the writes of images and of updates leave in the registers, whatever came between them: the table words
 -- are the last values that were written, and no lock is set.
-use Rattle.std.proofs.Common.{◌≡◌, ℕ, ◌+◌, ◌-◌, ◌*◌, ◌/◌, ◌%◌, ◌^◌, ◌<◌, ◌≤◌, ◌⊎◌, inl, inr, Bool, true, false, ◌==◌, not, ◌&&◌, eqb, ltb, cond, List, [], ◌∷◌, ◌++◌, length, append_assoc, Option, Some, None, get_or, set, sum_by, bit_and, bit_or, min, max, arith, refl, sym, ap, ◌∙◌, subst, ⊎_elim}
+use Rattle.std.proofs.Common.{◌≡◌, ℕ, ◌+◌, ◌-◌, ◌*◌, ◌/◌, ◌%◌, ◌^◌, ◌<◌, ◌≤◌, ◌⊎◌, inl, inr, true, false, ◌==◌, ltb, cond, List, [], ◌∷◌, ◌++◌, length, append_assoc, Option, Some, None, get_or, set, bit_and, bit_or, min, max, arith, refl, sym, ap, ◌∙◌, subst, ⊎_elim}
 use Rattle.std.specs.Int.{bit_at, bit_not, w32}
 use Rattle.std.proofs.Math.ListN.{length-set}
 use Rattle.std.proofs.lemmas.Nat.Bits.{bit_at_and, bit_at_or, bit_at_not, bit_at-lt}
@@ -10,9 +10,9 @@ use Rattle.std.proofs.lemmas.Bool.Decides.{nat_tests}
 use Rattle.std.proofs.lemmas.Nat.{mod_below, pow_pos, and_le_r}
 use Rattle.event_words.specs.declared.shape.Shape.{Shape}
 use Rattle.event_words.specs.declared.register.Register.{Register}
-use Rattle.event_words.specs.declared.register.Register.TheVariants.{Hwcfg0, Hwcfg2, Mdstall, Mdcfg, SrcmdEn, SrcmdR, SrcmdW, SrcmdPerm, EntryAddr, EntryAddrh, EntryCfg}
-use Rattle.event_words.specs.Registers.{Registers, word_at, bits_of, has_bit, named_at, srcmd_at, entry_at, if_had, has_register, fields_of, ruled_word, merged, set_word, reset_field, reset_of, reset_word, index_count, at_reset}
-use Rattle.event_words.specs.Guards.{guards_of, is_enabled, is_prient_prog}
+use Rattle.event_words.specs.declared.register.Register.TheVariants.{Hwcfg0, Hwcfg2, Mdcfg, SrcmdEn, SrcmdR, SrcmdW, SrcmdPerm, EntryAddr, EntryAddrh, EntryCfg}
+use Rattle.event_words.specs.Registers.{Registers, word_at, bits_of, has_bit, named_at, srcmd_at, entry_at, if_had, has_register, fields_of, ruled_word, merged, set_word, reset_of, reset_word, index_count, at_reset}
+use Rattle.event_words.specs.Guards.{is_enabled, is_prient_prog}
 use Rattle.policy_compiler.specs.declared.image.RegPair.{RegPair}
 use Rattle.policy_compiler.specs.Policies.{IsPolicyShape}
 use Rattle.policy_compiler.specs.Images.{pair}
