@@ -28,3 +28,4 @@ pub mod LivePlaces
 pub mod LiveLaw
 pub mod TableRewrites
 pub mod LiveUpdate
+pub mod LiveExample
