@@ -2,3 +2,4 @@ pub mod Puts
 pub mod Order
 pub mod Sections
 pub mod Images
+mod Rows

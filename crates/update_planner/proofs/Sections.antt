@@ -1,24 +1,23 @@
 -- A plan's commands are those of the entries of its map, and they make a valid section.
-use Rattle.std.proofs.Common.{◌≡◌, ℕ, zero, suc, ◌+◌, ◌*◌, ◌^◌, ◌<◌, ◌≤◌, Bool, true, false, ◌==◌, ◌&&◌, ◌||◌, not, cond, List, [], ◌∷◌, ◌++◌, Option, None, Some, map, filter, length, length-append, count_by, arith, refl, sym, ap, ◌∙◌}
+use Rattle.std.proofs.Common.{◌≡◌, ℕ, zero, suc, ◌+◌, ◌^◌, ◌<◌, ◌≤◌, Bool, true, false, ◌==◌, ◌&&◌, ◌||◌, not, cond, List, [], ◌∷◌, ◌++◌, Option, None, Some, map, filter, length, length-append, count_by, arith, refl, sym, ap, ◌∙◌}
 use Rattle.std.specs.List.{range_with_len, AllByRecursion}
-use Rattle.std.specs.List.Sorted.{IsStrictlySortedBy}
 use Rattle.std.specs.Option.{unwrap_or, IfSome, is_some, option_or, option_map}
 use Rattle.std.specs.Ordering.{nat_cmp}
 use Rattle.std.specs.BTreeMap.{BTreeMap, get, IsOrdered}
 use Rattle.std.proofs.lemmas.Bool.Decides.{nat_tests}
 use Rattle.std.proofs.lemmas.List.{length-map}
 use Rattle.event_words.specs.declared.section.Command.{Command}
-use Rattle.event_words.specs.declared.section.Command.TheVariants.{Write, Until}
+use Rattle.event_words.specs.declared.section.Command.TheVariants.{Write}
 use Rattle.event_words.specs.Registers.{index_count}
 use Rattle.event_words.specs.Sections.{is_submit, IsMax, AreValidCommands, IsValidSection}
 use Rattle.event_words.specs.declared.shape.Shape.{Shape}
 use Rattle.policy_compiler.specs.declared.image.RegPair.{RegPair}
 use Rattle.policy_compiler.specs.Images.{ImageOf}
 use Rattle.policy_compiler.proofs.Within.{AreWords}
-use Rattle.update_planner.specs.Plans.{written_value, is_written, is_rewritten, rewrite, rewrites, plan_commands}
+use Rattle.update_planner.specs.Plans.{written_value, is_rewritten, rewrite, rewrites, plan_commands}
 use Rattle.update_planner.specs.Values.{nothing, rewritten_value, entry_write, IsOfUnit, WritesUnit}
 use Rattle.update_planner.specs.Gives.{section_with}
-use Rattle.update_planner.proofs.Order.{held, with_value, pairs_from, IsOver, BeginsFrom, entries_are}
+use Rattle.update_planner.proofs.Order.{held, with_value, IsOver, BeginsFrom, entries_are}
 
 -- ---- the commands of the entries
 

@@ -11,15 +11,22 @@ use policy_compiler::Image;
 use std::alloc::{AllocError, Global};
 use std::collections::BTreeMap;
 
-/// Writes the stall register of unit 0.
+/// A write of a register of unit 0.
+fn write(index: u32, value: u32) -> Command
+    ensures { result ≡ Command.Write 0 index value }
+{
+    Command::Write {
+        unit: 0,
+        index,
+        value,
+    }
+}
+
+/// Writes the stall register: 1 to stall all requesters, 0 to release them.
 fn stall(commands: &mut Vec<Command>, value: u32) -> Result<(), AllocError>
     ensures { IfOk result (λ _. commands.new.items ≡ commands.old.items ++ Command.Write 0 (index_of Mdstall) value ∷ []) }
 {
-    commands.push(Command::Write {
-        unit: 0,
-        index: Register::Mdstall.index(),
-        value,
-    })?;
+    commands.push(write(Register::Mdstall.index(), value))?;
     Ok(())
 }
 
@@ -37,16 +44,12 @@ fn drain(commands: &mut Vec<Command>, polls: u32) -> Result<(), AllocError>
     Ok(())
 }
 
-/// Writes the values of registers of unit 0, in ascending order.
+/// Writes the values of registers, in ascending order.
 fn write_all(commands: &mut Vec<Command>, values: &BTreeMap<u32, u32>) -> Result<(), AllocError>
     ensures { IfOk result (λ _. commands.new.items ≡ commands.old.items ++ map entry_write values.now.entries) }
 {
     for (index, value) in values {
-        commands.push(Command::Write {
-            unit: 0,
-            index: *index,
-            value: *value,
-        })?;
+        commands.push(write(*index, *value))?;
     }
     Ok(())
 }

@@ -11,3 +11,6 @@ mod values;
 
 pub use answer::{Plan, PlanError};
 pub use planning::plan;
+
+#[cfg(test)]
+mod tests;

@@ -1,5 +1,4 @@
 use Rattle.std.proofs.Common.{refl, sym, subst}
-use Rattle.event_words.specs.declared.section.Command.{Command}
 use Rattle.event_words.specs.Sections.{IsValidSection}
 use Rattle.update_planner.specs.Gives.{section_with}
 use Rattle.update_planner.proofs.Images.{unit_writes, valid_between}
