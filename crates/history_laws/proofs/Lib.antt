@@ -29,3 +29,4 @@ pub mod LiveLaw
 pub mod TableRewrites
 pub mod LiveUpdate
 pub mod LiveExample
+pub mod LastWrite

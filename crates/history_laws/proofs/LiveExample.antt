@@ -1,8 +1,7 @@
--- A live history of one unit: a verdict before the drained reading, one after the release, and the policies'
--- decisions.
-use Rattle.std.proofs.Common.{◌≡◌, ℕ, List, [], ◌∷◌, ◌++◌, Option, Some, None, map, refl, arith, true, false, subst, sym, ◌∙◌, ◌+◌, ◌-◌, ◌^◌, ◌<◌, ◌≤◌, ⊎_elim}
+-- A live history in numbers: a verdict before the drained reading, which the old policy denies, and one after
+-- the release, which the new policy allows.
+use Rattle.std.proofs.Common.{◌≡◌, ℕ, List, [], ◌∷◌, ◌++◌, Some, None, map, refl, arith, true, false, subst, sym, ◌∙◌, ◌+◌, ◌-◌, ◌^◌, ◌<◌, ◌≤◌, ⊎_elim}
 use Rattle.std.proofs.lemmas.Bool.{cases_lt}
-use Rattle.std.specs.Prelude.{IsSome}
 use Rattle.std.specs.List.{AllByRecursion}
 use lib.Count
 use Rattle.event_words.specs.declared.shape.Shape.{Shape}
@@ -10,7 +9,7 @@ use Rattle.event_words.specs.declared.access.Access.{Access}
 use Rattle.event_words.specs.declared.access.Kind.TheVariants.{Write}
 use Rattle.event_words.specs.declared.event.Event.{Event}
 use Rattle.event_words.specs.declared.event.Event.TheVariants.{RegWrite, RegRead, Submit, Judge}
-use Rattle.event_words.specs.declared.reply.Reply.TheVariants.{Value, Verdict, Queued}
+use Rattle.event_words.specs.declared.reply.Reply.TheVariants.{Verdict, Queued}
 use Rattle.event_words.specs.declared.reply.Verdict.TheVariants.{Allowed, Denied}
 use Rattle.event_words.specs.declared.section.Command.TheVariants as commands
 use Rattle.event_words.specs.Sections.{SectionOf}
@@ -18,15 +17,13 @@ use Rattle.event_words.specs.Word.{word_of}
 use Rattle.event_words.specs.Valid.{IsValidEvent, IsValidHead, IsValidShape}
 use Rattle.event_words.specs.Events.{same_event}
 use Rattle.event_words.specs.Runs.{IsEventWord, bearer}
-use Rattle.policy_compiler.specs.declared.policy.Rule.{Rule}
-use Rattle.policy_compiler.specs.declared.image.RegPair.{RegPair}
-use Rattle.policy_compiler.specs.Policies.{PolicyOf, DomainOf, IsPolicy, IsRule, is_single}
+use Rattle.policy_compiler.specs.Policies.{PolicyOf, IsPolicy, IsRule, is_single}
 use Rattle.policy_compiler.specs.Needs.{need_refusal, need_domains, need_entries, rule_need}
 use Rattle.policy_compiler.specs.Commands.{image_section}
 use Rattle.update_planner.specs.Plans.{plan_commands, rewrites}
-use Rattle.policy_compiler.specs.Images.{image_of, pair, writes_of, member_writes, rule_entries, permissions}
+use Rattle.policy_compiler.specs.Images.{image_of, pair, writes_of, member_writes, rule_entries}
 use Rattle.policy_compiler.specs.Decides.{policy_decision, rule_touches, rule_covers, rule_grants, is_member, guard_kind, grants_kind}
-use Rattle.unit_core.specs.Histories.{History, event_at, reply_at, history_of, logged_in, HasRecord, HaveRecords, BootComesFirst}
+use Rattle.unit_core.specs.Histories.{History, reply_at, history_of, logged_in, HasRecord, HaveRecords, BootComesFirst}
 use Rattle.unit_core.specs.Updates.{ReadsDrained, IsDrainedReading, IsUpdateWrite, IsRelease}
 use Rattle.history_laws.specs.Live.{IsLiveHistory, update_lanes}
 use Rattle.history_laws.proofs.EventWords.{is_event_word}
@@ -169,17 +166,14 @@ event_words : (es : List Event) → AllByRecursion IsValidEvent es → AllByRecu
 event_words [] h = tt
 event_words (e ∷ es) h = (is_event_word e h.0, event_words es h.1)
 
-abbrev w : (caller index value : ℕ) → caller < 32 → index < 2 ^ 22 → value < 2 ^ 32 → IsValidEvent (RegWrite 0 caller index value)
-w = valid_write
-
 all_valid : AllByRecursion IsValidEvent updated
 all_valid =
-    (w 0 4 0 (omega arith) (omega arith) (omega arith), (w 0 512 1 (omega arith) (omega arith) (omega arith), (w 0 1024 2 (omega arith) (omega arith) (omega arith),
-    (w 0 2048 0x200001ff (omega arith) (omega arith) (omega arith), (w 0 2049 0 (omega arith) (omega arith) (omega arith), (w 0 2050 0x19 (omega arith) (omega arith) (omega arith), (w 0 2 1 (omega arith) (omega arith) (omega arith),
-    (valid_submission 2 (omega arith), (w 1 12 1 (omega arith) (omega arith) (omega arith), (valid_judgement 2 7 (omega arith) (omega arith), ((head 0 1 (omega arith) (omega arith), omega arith),
-    (w 1 4 0 (omega arith) (omega arith) (omega arith), (w 1 512 1 (omega arith) (omega arith) (omega arith), (w 1 1024 2 (omega arith) (omega arith) (omega arith),
-    (w 1 2048 0x200001ff (omega arith) (omega arith) (omega arith), (w 1 2049 0 (omega arith) (omega arith) (omega arith), (w 1 2050 0x1b (omega arith) (omega arith) (omega arith),
-    (valid_submission 3 (omega arith), (w 1 12 0 (omega arith) (omega arith) (omega arith), (valid_judgement 3 17 (omega arith) (omega arith), tt))))))))))))))))))))
+    (valid_write 0 4 0 (omega arith) (omega arith) (omega arith), (valid_write 0 512 1 (omega arith) (omega arith) (omega arith), (valid_write 0 1024 2 (omega arith) (omega arith) (omega arith),
+    (valid_write 0 2048 0x200001ff (omega arith) (omega arith) (omega arith), (valid_write 0 2049 0 (omega arith) (omega arith) (omega arith), (valid_write 0 2050 0x19 (omega arith) (omega arith) (omega arith), (valid_write 0 2 1 (omega arith) (omega arith) (omega arith),
+    (valid_submission 2 (omega arith), (valid_write 1 12 1 (omega arith) (omega arith) (omega arith), (valid_judgement 2 7 (omega arith) (omega arith), ((head 0 1 (omega arith) (omega arith), omega arith),
+    (valid_write 1 4 0 (omega arith) (omega arith) (omega arith), (valid_write 1 512 1 (omega arith) (omega arith) (omega arith), (valid_write 1 1024 2 (omega arith) (omega arith) (omega arith),
+    (valid_write 1 2048 0x200001ff (omega arith) (omega arith) (omega arith), (valid_write 1 2049 0 (omega arith) (omega arith) (omega arith), (valid_write 1 2050 0x1b (omega arith) (omega arith) (omega arith),
+    (valid_submission 3 (omega arith), (valid_write 1 12 0 (omega arith) (omega arith) (omega arith), (valid_judgement 3 17 (omega arith) (omega arith), tt))))))))))))))))))))
 
 order : BootComesFirst 3 words
 unfolding bearer

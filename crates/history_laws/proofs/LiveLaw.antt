@@ -1,8 +1,8 @@
 -- A live update: the old policy decides up to the drained reading, and the new one after the release.
-use Rattle.std.proofs.Common.{◌≡◌, ℕ, suc, ◌+◌, ◌-◌, ◌<◌, ◌≤◌, ◌++◌, ◌==◌, not, inl, inr, true, false, ltb, cond, List, [], ◌∷◌, Some, None, length, map, take, drop, append_assoc, refl, sym, ap, subst, ◌∙◌, arith, ⊎_elim}
+use Rattle.std.proofs.Common.{◌≡◌, ◌⊎◌, ℕ, suc, ◌+◌, ◌-◌, ◌<◌, ◌≤◌, ◌++◌, ◌==◌, not, inl, inr, true, false, ltb, cond, List, [], ◌∷◌, Some, None, length, map, take, drop, append_assoc, refl, sym, ap, subst, ◌∙◌, arith, ⊎_elim}
 use Rattle.std.specs.Prelude.{slice_get, option_map}
 use Rattle.std.specs.List.{AllByRecursion}
-use Rattle.std.proofs.lemmas.Bool.{cases_lt, eqb-true}
+use Rattle.std.proofs.lemmas.Bool.{cases_eq, cases_lt, eqb-true}
 use Rattle.std.proofs.lemmas.Bool.Decides.{nat_tests}
 use Rattle.event_words.specs.declared.shape.Shape.{Shape}
 use Rattle.event_words.specs.declared.access.Access.{Access}
@@ -33,7 +33,7 @@ use Rattle.unit_core.specs.Histories.{History, units_at, state_at, event_at, rep
 use Rattle.unit_core.specs.Updates.{ReadsDrained, IsDrainedReading, IsUpdateWrite, IsRelease}
 use Rattle.unit_core.specs.Windows.{is_flagged}
 use Rattle.history_laws.specs.Verdicts.{verdict_of}
-use Rattle.history_laws.specs.Live.{kind_of_verdict, KeepsPolicies}
+use Rattle.history_laws.specs.Live.{kind_of_verdict, IsBeforeReading, IsAfterRelease, KeepsPolicies}
 use Rattle.history_laws.proofs.Runs.{own_state, own_at, shape_there}
 use Rattle.history_laws.proofs.WindowLaw.{law_windows}
 use Rattle.history_laws.proofs.VerdictLaw.{law_verdicts}
@@ -43,7 +43,8 @@ use Rattle.history_laws.proofs.WriteRecords.{event_of, stall, free}
 use Rattle.history_laws.proofs.UnitStands.{UnitStands, IsOnZero, unit_stands}
 use Rattle.history_laws.proofs.LiveLists.{IsLive, IsLoggedOnZero}
 use Rattle.history_laws.proofs.PlanParts.{writes_in, writes_both, of_none, own_before, own_from, own_cut, own_here, still_some, write_there, IsUpdate, plan_writes, NotDrained, before_reading, at_reading, AreNot, value_kept, some_writes, part_stalls}
-use Rattle.history_laws.proofs.LivePlaces.{IsLogOf, idle_hits, none_drained, not_drained, past_boot, among_others, writes_upto, writes_whole}
+use Rattle.history_laws.proofs.LastWrite.{release_there}
+use Rattle.history_laws.proofs.LivePlaces.{IsLogOf, least, idle_hits, none_drained, not_drained, past_boot, among_others, writes_upto, writes_whole}
 
 -- ---- the writes of tables
 
@@ -130,12 +131,6 @@ pub record IsUpdating (old new : PolicyOf) (tables : List RegPair) (h : History)
   pub accesses : (k caller : ℕ) (a : Access) → event_at h k ≡ Some (Submit 0 caller a) → IsValidAccess a
 
 module _ (old new : PolicyOf) (tables : List RegPair) (h : History) (xs : List LoggedEvent) (u : IsUpdating old new tables h xs) where
-  abbrev first : ℕ
-  first = length u.live.boot
-
-  abbrev others : List LoggedEvent
-  others = u.live.others
-
   -- unit 0 before place k
   abbrev unit : ℕ → UnitState
   unit k = own_state h.events 0 old.shape k
@@ -248,7 +243,6 @@ module _ (old new : PolicyOf) (tables : List RegPair) (h : History) (xs : List L
   stalled_at : (b r k s : ℕ) → IsDrainedReading h b → IsRelease h r → b ≤ k → k ≤ r → s < old.shape.rrids → is_flagged (state_at h k 0) s ≡ true
   stalled_at b r k s read rel l m known =
       let at = reading b read.drained in
-      let n = k - length u.live.boot in
       let is : k ≡ length u.live.boot + (k - length u.live.boot) = let e = at.is in omega arith in
       let from : at.number ≤ k - length u.live.boot = let e = at.is in omega arith in
       let c = stands (k - length u.live.boot) in
@@ -273,6 +267,51 @@ module _ (old new : PolicyOf) (tables : List RegPair) (h : History) (xs : List L
           let is = p.is in
           write_there n p.number u.live.others x (pair w.index w.value) (omega arith) p.here refl refl
 
+  -- ---- a verdict stands on one of the two sides
+
+  some_write : (b : ℕ) → IsDrainedReading h b → ((k : ℕ) → IsUpdateWrite h k → ⊥) → ⊥
+  some_write b read none =
+      let at = reading b read.drained in
+      let nothing = of_none u.live.others (all_from (λ x. is_by 1 x ≡ true → WritesNothing x) u.live.others 0
+      (λ j x l e. let here = u.log.here (length u.live.boot + j) x (among_others (image_of old).writes tables xs u.live j ∙ e) in
+      quiet (length u.live.boot + j) x.event here.0)) in
+      let n : stall ∷ (tables ++ free ∷ []) ≡ [] = sym at.whole ∙ nothing in
+      cc
+    where
+      quiet : (k : ℕ) (e : Event) → event_at h k ≡ Some e → (caller_of e == 1) ≡ true → IsNoWrite e
+      quiet k (RegWrite unit caller index value) q t =
+          let one : caller ≡ 1 = eqb-true caller 1 t in
+          absurd (none k (record { unit = unit; index = index; value = value; event = q ∙ ap (λ c. Some (RegWrite unit c index value)) one }))
+      quiet k (RegRead unit caller index) q t = tt
+      quiet k (Submit unit caller a) q t = tt
+      quiet k (Judge unit caller place) q t = tt
+
+  sides : (p caller q : ℕ) → event_at h p ≡ Some (Judge 0 caller q) → ((b r : ℕ) → IsDrainedReading h b → IsRelease h r → b < p → p < r → ⊥) → IsBeforeReading h p ⊎ IsAfterRelease h p
+  sides p caller q event between = by (least h p)
+    where
+      at_judgement : (k : ℕ) (e : Event) → event_at h k ≡ Some e → p ≡ k → e ≡ Judge 0 caller q
+      at_judgement k e f same = let both : Some e ≡ Some (Judge 0 caller q) = sym f ∙ (ap (event_at h) (sym same) ∙ event) in cc
+
+      by : ((b : ℕ) × (b < p) × IsDrainedReading h b) ⊎ ((k : ℕ) → k < p → ReadsDrained h k → ⊥) → IsBeforeReading h p ⊎ IsAfterRelease h p
+      by (inr none) = inl (λ b read. ⊎_elim
+          (λ (l : b < p). absurd (none b l read.drained))
+          (λ (l : p ≤ b). ⊎_elim
+          (λ (same : p ≡ b). let n : RegRead 0 1 12 ≡ Judge 0 caller q = at_judgement b (RegRead 0 1 12) read.drained.event same in absurd (cc))
+          (λ (ne : p ≡ b → ⊥). ⊎_elim (λ (m : p < b). m) (λ (m : b ≤ p). absurd (ne (omega arith))) (cases_lt p b))
+          (cases_eq p b))
+          (cases_lt b p))
+      by (inl f) =
+          let found = release_there h f.0 f.2 (some_write f.0 f.2) in
+          let w = found.1.write in
+          let after : found.0 < p = ⊎_elim
+          (λ (l : found.0 < p). l)
+          (λ (l : p ≤ found.0). ⊎_elim
+          (λ (same : p ≡ found.0). let n : RegWrite w.unit 1 w.index w.value ≡ Judge 0 caller q = at_judgement found.0 (RegWrite w.unit 1 w.index w.value) w.event same in absurd (cc))
+          (λ (ne : p ≡ found.0 → ⊥). ⊎_elim (λ (m : p < found.0). absurd (between f.0 found.0 f.2 found.1 f.1 m)) (λ (m : found.0 ≤ p). absurd (ne (omega arith))) (cases_lt p found.0))
+          (cases_eq p found.0))
+          (cases_lt found.0 p) in
+          inr (found.0, found.1, after)
+
   pub keeps_policies : KeepsPolicies old new h
   keeps_policies p caller q verdict event reply =
       let d = law_verdicts h 0 caller q p verdict event reply in
@@ -282,11 +321,14 @@ module _ (old new : PolicyOf) (tables : List RegPair) (h : History) (xs : List L
       let x : LoggedEvent = record { place = p; event = Judge 0 caller q; reply = replies.Verdict verdict } in
       let logged = u.log.there p (Judge 0 caller q) (replies.Verdict verdict) event reply in
       let at = past p x logged (past_boot (image_of old).writes tables xs u.live p x logged tt) in
-      let a = d.access in
       let valid = u.accesses q caller d.access d.submission.event in
       let state : d.state ≡ unit (length u.live.boot + at.number) = sym there.2 ∙ (ap (λ z. own_state h.events 0 z p) shape ∙ ap unit at.is) in
       let kind : kind_of_verdict verdict ≡ kind_at at.number d.access =
       ap kind_of_verdict d.verdict_is ∙ (verdict_kind d.state d.access (decision d.state.registers d.access) ∙ ap (λ (y : UnitState). kind_of (decision y.registers d.access)) state) in
+      let between = λ (b r : ℕ) (known : d.access.rrid < old.shape.rrids) (read : IsDrainedReading h b) (rel : IsRelease h r) (l : b < p) (m : p < r).
+      law_windows h 0 d.access.rrid b p
+      (record { caller = 1; value = read.drained.value; event = read.drained.event; reply = read.drained.reply; idle = read.drained.idle; flagged = λ k from upto. stalled_at b r k d.access.rrid read rel from (omega arith) known; later = l })
+      (record { caller = caller; place = q; access = d.access; verdict = verdict; event = event; reply = reply; submission = d.submission.event; requester = refl }) in
       record {
         access = d.access;
         submission = d.submission.event;
@@ -294,10 +336,8 @@ module _ (old new : PolicyOf) (tables : List RegPair) (h : History) (xs : List L
         follows = record {
           unknown = λ strange. kind ∙ unknown_case at.number d.access strange;
           before = λ known later. kind ∙ before_case at.number d.access valid (λ b r. subst (λ k. k < b) at.is (later b r));
-          after = λ r known rel l. kind ∙ after_case at.number r d.access valid rel (subst (λ k. r < k) at.is l);
-          none_between = λ b r known read rel l m.
-              law_windows h 0 d.access.rrid b p
-              (record { caller = 1; value = read.drained.value; event = read.drained.event; reply = read.drained.reply; idle = read.drained.idle; flagged = λ k from upto. stalled_at b r k d.access.rrid read rel from (omega arith) known; later = l })
-              (record { caller = caller; place = q; access = d.access; verdict = verdict; event = event; reply = reply; submission = d.submission.event; requester = refl });
+          after = λ known release. kind ∙ after_case at.number release.0 d.access valid release.1 (subst (λ k. release.0 < k) at.is release.2);
+          none_between = between;
+          sides = λ known. sides p caller q event (λ b r read rel l m. between b r known read rel l m);
         };
       }

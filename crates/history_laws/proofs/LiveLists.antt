@@ -195,7 +195,6 @@ pub live_list : (shapes : List Shape) (old tables : List RegPair) (polls : ℕ) 
     → boot.commands ≡ map write_command old → plan.commands ≡ plan_of tables polls → AllByRecursion IsQuietSection lanes
     → IsLegalHistory shapes boot (plan ∷ lanes) words → IsLive old tables (logged_in shapes words)
 live_list shapes old tables polls boot plan lanes words b p q legal =
-    let xs = logged_in shapes words in
     let h = logged_halves (suc (length lanes)) shapes words legal.events legal.order in
     let booted = some_of (end_from 0 boot.commands [] (events_by 0 (logged_in shapes words))) legal.boot_record in
     let planned = some_of (end_from 1 plan.commands [] (events_by 1 (logged_in shapes words))) legal.lane_records.0 in

@@ -92,7 +92,7 @@ drained_or_not h k = by (event_at h k) (reply_at h k) refl refl
     by (Some e) (Some r) p q = tested e r (same_event (events.RegRead 0 1 12) e && hits 1 0 r) p q refl
 
 -- the first of the places below n, or none
-least : (h : History) (n : ℕ) → ((b : ℕ) × (b < n) × IsDrainedReading h b) ⊎ ((k : ℕ) → k < n → ReadsDrained h k → ⊥)
+pub least : (h : History) (n : ℕ) → ((b : ℕ) × (b < n) × IsDrainedReading h b) ⊎ ((k : ℕ) → k < n → ReadsDrained h k → ⊥)
 least h zero = inr (λ k l d. absurd (omega arith))
 least h (suc n) = by (least h n) (drained_or_not h n)
   where

@@ -34,7 +34,6 @@ valid_access shapes words all k caller a q = by (slice_get words k) refl (sym (e
 
 pub law_live : LawLive
 law_live old new polls lanes words l =
-    let tables = tables_between (image_of old) (image_of new) in
     let live = live_list (old.shape ∷ []) (image_of old).writes (tables_between (image_of old) (image_of new)) polls (image_section (image_of old)) (section_with (plan_commands (image_of old) (image_of new) polls)) lanes words
     refl (plan_is (image_of old) (image_of new) polls) l.quiet l.legal in
     keeps_policies old new (tables_between (image_of old) (image_of new)) (history_of (old.shape ∷ []) words) (logged_in (old.shape ∷ []) words)

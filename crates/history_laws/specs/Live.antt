@@ -1,5 +1,5 @@
 -- The law of a live update: what a verdict says before the update's drained reading and after its release.
-use Rattle.std.specs.Prelude.{◌≡◌, ℕ, ◌<◌, Some, None, List, [], ◌∷◌}
+use Rattle.std.specs.Prelude.{◌≡◌, ◌⊎◌, ℕ, ◌<◌, Some, None, List, [], ◌∷◌}
 use Rattle.std.specs.List.{AllByRecursion}
 use Rattle.event_words.specs.declared.access.Access.{Access}
 use Rattle.event_words.specs.declared.event.Event.TheVariants.{Submit, Judge}
@@ -24,13 +24,23 @@ abbrev pub kind_of_verdict : AnyVerdict → ℕ
 kind_of_verdict (verdicts.Allowed next) = 0
 kind_of_verdict (verdicts.Denied denial) = denial.kind
 
--- The kind of a verdict at place p on an access: the old policy's up to the drained reading, the new one's
--- after the release. No verdict on a known requester stands between the two.
+-- place p has no drained reading before it, or has the release before it
+abbrev pub IsBeforeReading : History → ℕ → Type 0
+IsBeforeReading h p = (b : ℕ) → IsDrainedReading h b → p < b
+
+abbrev pub IsAfterRelease : History → ℕ → Type 0
+IsAfterRelease h p = (r : ℕ) × IsRelease h r × (r < p)
+
+-- The kind of a verdict at place p on an access. On an unknown requester it is violation 6. On a known one
+-- it is the old policy's up to the drained reading and the new one's after the release, and no verdict on
+-- one stands between the two.
 pub record FollowsPolicies (old new : PolicyOf) (h : History) (p : ℕ) (access : Access) (kind : ℕ) : Type 0 where
   pub unknown : (access.rrid < old.shape.rrids → ⊥) → kind ≡ 6
-  pub before : access.rrid < old.shape.rrids → ((b : ℕ) → IsDrainedReading h b → p < b) → kind ≡ policy_decision old access
-  pub after : (r : ℕ) → access.rrid < old.shape.rrids → IsRelease h r → r < p → kind ≡ policy_decision new access
+  pub before : access.rrid < old.shape.rrids → IsBeforeReading h p → kind ≡ policy_decision old access
+  pub after : access.rrid < old.shape.rrids → IsAfterRelease h p → kind ≡ policy_decision new access
   pub none_between : (b r : ℕ) → access.rrid < old.shape.rrids → IsDrainedReading h b → IsRelease h r → b < p → p < r → ⊥
+  -- so it stands on one of the two sides
+  pub sides : access.rrid < old.shape.rrids → IsBeforeReading h p ⊎ IsAfterRelease h p
 
 -- so each verdict of unit 0, on the access of the submission that it judges
 pub record IsByPolicies (old new : PolicyOf) (h : History) (caller q p : ℕ) (verdict : AnyVerdict) : Type 0 where

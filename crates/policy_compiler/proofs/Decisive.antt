@@ -119,9 +119,6 @@ pub decides_standing : (r : Registers) (p : PolicyOf) (ps : List RegPair) → Is
     → kind_of (decision r a) ≡ policy_decision p a
 decides_standing r p ps good h c same a valid =
     let fit = room p good h in
-    let g = guards_of_policy p in
-    let hs = hardware p.domains in
-    let ws = writes_of p.shape (guards_of_policy p) (hardware p.domains) in
     let written = stands_written p.shape (writes_of p.shape (guards_of_policy p) (hardware p.domains)) good.shape (writes_next p.shape (guards_of_policy p) (hardware p.domains) fit (few_guards p fit)) in
     let values : (i : ℕ) → (i ≡ 12 → ⊥) → value_of ps i ≡ value_of (writes_of p.shape (guards_of_policy p) (hardware p.domains)) i = λ i ne. same i ne ∙ ap (λ qs. value_of qs i) (image_writes p) in
     decides_alike r p good fit (record {

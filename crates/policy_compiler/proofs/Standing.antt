@@ -129,7 +129,6 @@ prio_low r g t small =
 -- of the number of priority entries
 stands_prio : (h : Shape) (ps : List RegPair) (r : Registers) (v : ℕ) → v < 2 ^ 16 → Stands h ps r → Stands h (ps ++ pair 4 v ∷ []) (set_word r 4 (prio_word r v))
 stands_prio h ps r v small c =
-    let x = prio_word r v in
     let two : word_at (set_word r 4 (prio_word r v)) 2 ≡ word_at r 2 = other r.words 4 2 (prio_word r v) (λ e. absurd (omega arith)) in
     record {
       unlocked = unlocked_set h r 4 (prio_word r v) (inl (omega arith)) (low_even h 4 (prio_word r v) (omega arith)) c.unlocked;
@@ -168,7 +167,6 @@ record EnableBits (r : Registers) : Type 0 where
 
 enable_bits_are : (r : Registers) → is_enabled r ≡ false → is_prient_prog r ≡ true → r.shape.mdcfg ≡ 0 → EnableBits r
 enable_bits_are r e t f =
-    let old = word_at r 2 in
     let k = enable_kept r e t f in
     let zero : word_at r 2 / 2 ^ 0 % 2 ^ 1 ≡ 0 = not_one (word_at r 2 / 2 ^ 0 % 2) e (mod_below (word_at r 2 / 2 ^ 0) 2 (omega arith)) in
     let one : bit_or (bits_of 0 1 (word_at r 2)) (bits_of 0 1 1) ≡ 1 = rw zero refl in
