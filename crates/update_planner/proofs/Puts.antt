@@ -7,7 +7,7 @@ use Rattle.std.specs.BTreeMap.{is_at}
 use Rattle.std.proofs.lemmas.Bool.Decides.{nat_tests}
 use Rattle.policy_compiler.specs.declared.image.RegPair.{RegPair}
 use Rattle.update_planner.specs.Plans.{written_value}
-use Rattle.update_planner.specs.Values.{nothing, zeros_over, values_over}
+use Rattle.update_planner.specs.Values.{zero_for, zeros_over, values_over}
 
 by_order : (k q : ℕ) (a b : Bool) → ltb k q ≡ a → (k == q) ≡ b → is_eq (cond a Less (cond b Equal Greater)) ≡ b
 by_order k q true true s t = absurd (grind (arith, nat_tests))
@@ -24,7 +24,7 @@ value_case None true v before = refl
 value_case None false v before = refl
 value_case (Some x) b v before = refl
 
-zero_case : (o : Option ℕ) (b : Bool) (v : ℕ) (before : Option ℕ) → option_or (option_map nothing o) (cond b (Some 0) before) ≡ option_or (option_map nothing (option_or o (if b then Some v else None))) before
+zero_case : (o : Option ℕ) (b : Bool) (v : ℕ) (before : Option ℕ) → option_or (option_map zero_for o) (cond b (Some 0) before) ≡ option_or (option_map zero_for (option_or o (if b then Some v else None))) before
 zero_case None true v before = refl
 zero_case None false v before = refl
 zero_case (Some x) b v before = refl

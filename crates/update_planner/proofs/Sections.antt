@@ -15,7 +15,7 @@ use Rattle.policy_compiler.specs.declared.image.RegPair.{RegPair}
 use Rattle.policy_compiler.specs.Images.{ImageOf}
 use Rattle.policy_compiler.proofs.Within.{AreWords}
 use Rattle.update_planner.specs.Plans.{written_value, is_rewritten, rewrite, rewrites, plan_commands}
-use Rattle.update_planner.specs.Values.{nothing, rewritten_value, entry_write, IsOfUnit, WritesUnit}
+use Rattle.update_planner.specs.Values.{zero_for, rewritten_value, entry_write, IsOfUnit, WritesUnit}
 use Rattle.update_planner.specs.Gives.{section_with}
 use Rattle.update_planner.proofs.Order.{held, with_value, IsOver, BeginsFrom, entries_are}
 
@@ -24,7 +24,7 @@ use Rattle.update_planner.proofs.Order.{held, with_value, IsOver, BeginsFrom, en
 abbrev new_value : ImageOf → ℕ → ℕ
 new_value new index = unwrap_or (written_value new.writes index) 0
 
-value_held : (old new : Option ℕ) (b : Bool) → cond b None (option_or new (option_or (option_map nothing old) None)) ≡ held (not b && (is_some old || is_some new)) (unwrap_or new 0)
+value_held : (old new : Option ℕ) (b : Bool) → cond b None (option_or new (option_or (option_map zero_for old) None)) ≡ held (not b && (is_some old || is_some new)) (unwrap_or new 0)
 value_held old new true = refl
 value_held None None false = refl
 value_held None (Some y) false = refl

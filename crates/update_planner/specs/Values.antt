@@ -11,12 +11,12 @@ use Rattle.policy_compiler.specs.declared.image.RegPair.{RegPair}
 use Rattle.policy_compiler.specs.Images.{ImageOf}
 use Rattle.update_planner.specs.Plans.{written_value}
 
-abbrev pub nothing : ℕ → ℕ
-nothing value = 0
+abbrev pub zero_for : ℕ → ℕ
+zero_for value = 0
 
 -- 0 where writes write a register, else what was there
 abbrev pub zeros_over : List RegPair → Option ℕ → ℕ → Option ℕ
-zeros_over ws before index = option_or (option_map nothing (written_value ws index)) before
+zeros_over ws before index = option_or (option_map zero_for (written_value ws index)) before
 
 -- the value that writes leave in a register, else what was there
 abbrev pub values_over : List RegPair → Option ℕ → ℕ → Option ℕ

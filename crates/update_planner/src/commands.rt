@@ -55,7 +55,7 @@ fn write_all(commands: &mut Vec<Command>, values: &BTreeMap<u32, u32>) -> Result
 }
 
 /// The commands of a plan from one image to another.
-#[tactic(auto, unfolding(crate::specs::Plans::plan_commands))]
+#[tactic(auto, unfolding(crate::specs::Plans::plan_commands), using(crate::proofs::Sections::entries_rewrite))]
 pub fn commands(
     alloc: Global,
     old: &Image,
