@@ -30,3 +30,6 @@ pub mod TableRewrites
 pub mod LiveUpdate
 pub mod LiveExample
 pub mod LastWrite
+pub mod Numerals
+pub mod EventTexts
+pub mod EqualReportsLaw

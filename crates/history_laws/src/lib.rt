@@ -13,6 +13,7 @@ ghost use Rattle.history_laws.specs.Laws.{LawKept};
 ghost use Rattle.history_laws.specs.Lengths.{LawLengths};
 ghost use Rattle.history_laws.specs.OneHistory.{LawOneHistory};
 ghost use Rattle.history_laws.specs.Live.{LawLive};
+ghost use Rattle.history_laws.specs.EqualReports.{LawReports};
 
 /// In every state each queued submission has a known, stalled requester, and a queue has at most its
 /// size.
@@ -64,4 +65,10 @@ pub fn law_one_history()
 /// and none stands between the two. A verdict on an unknown requester is violation 6 everywhere.
 pub fn law_live()
     ensures { LawLive }
+{}
+
+/// A report tells the whole history that it is of: two lists of event words, legal or not, that give
+/// equal reports under one script are equal.
+pub fn law_reports()
+    ensures { LawReports }
 {}
