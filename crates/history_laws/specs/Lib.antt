@@ -7,4 +7,5 @@ pub mod Busy
 pub mod Laws
 pub mod Lengths
 pub mod OneHistory
+pub mod Live
 pub mod EqualReports

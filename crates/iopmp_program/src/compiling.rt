@@ -1,9 +1,10 @@
 // The printed script of a policy's image.
 ghost use Rattle.std.specs.Prelude.{◌≡◌, map, IfOk};
 ghost use Rattle.policy_compiler.specs.Policies.{IsPolicy};
+ghost use Rattle.policy_compiler.specs.Commands.{write_command};
 ghost use Rattle.iopmp_program.specs.PolicyLines.{need_line};
 ghost use Rattle.iopmp_program.specs.Givings.{HasLine, GivesText, IsPrinted, IsTooMuch};
-ghost use Rattle.iopmp_program.specs.Compiles.{write_command, image_script, IsCompiled, IsRefused};
+ghost use Rattle.iopmp_program.specs.Compiles.{image_script, IsCompiled, IsRefused};
 
 use crate::policy_lines::{WhichPolicy, need_line};
 use crate::printing::NoText;
