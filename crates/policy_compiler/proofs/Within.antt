@@ -39,7 +39,7 @@ writes_within h guards hs good few fits = (
       (append_within 0 (index_count h) (hardware_writes 0 hs) _ (entries_below h hs fits) ((omega arith, omega arith), tt))),
 )
 
-none_needed : (p : PolicyOf) → need_refusal p ≡ None → (need_domains p ≤ p.shape.domains) × (need_entries p ≤ p.shape.entries)
+pub none_needed : (p : PolicyOf) → need_refusal p ≡ None → (need_domains p ≤ p.shape.domains) × (need_entries p ≤ p.shape.entries)
 unfolding need_refusal
 none_needed p e = by_tests (ltb p.shape.domains (need_domains p)) (ltb p.shape.entries (need_entries p)) refl refl e
   where

@@ -1,0 +1,90 @@
+-- The section that makes an image's writes is valid, and names unit 0 alone.
+use Rattle.std.proofs.Common.{◌≡◌, ℕ, zero, suc, ◌^◌, ◌+◌, ◌*◌, ◌<◌, ◌≤◌, Bool, true, false, ◌==◌, List, [], ◌∷◌, ◌++◌, length, map, count_by, None, if◌then◌else◌, arith, refl, sym, ap, subst, ◌∙◌, length-append}
+use Rattle.std.specs.List.{AllByRecursion}
+use Rattle.std.proofs.lemmas.List.{length-map}
+use Rattle.event_words.specs.declared.shape.Shape.{Shape}
+use Rattle.event_words.specs.Registers.{index_count}
+use Rattle.event_words.specs.Sections.{IsValidSection, AreValidCommands, NamesUnits, NamesOnlyUnits, is_submit}
+use Rattle.policy_compiler.specs.declared.image.RegPair.{RegPair}
+use Rattle.policy_compiler.specs.declared.hardware.EntryWords.{EntryWords}
+use Rattle.policy_compiler.specs.declared.read.rules.RuleKind.TheVariants.{Guards}
+use Rattle.policy_compiler.specs.Policies.{PolicyOf, IsPolicy, IsPolicyShape}
+use Rattle.policy_compiler.specs.Images.{HardwareOf, entry_writes, hardware, hardware_of, mdcfg_writes, enable_writes, permission_writes, member_writes, hardware_writes, writes_of, image_of, entry_count}
+use Rattle.policy_compiler.specs.Needs.{need_refusal}
+use Rattle.policy_compiler.specs.Commands.{write_command, image_section}
+use Rattle.policy_compiler.proofs.Fits.{fits_in}
+use Rattle.policy_compiler.proofs.Puts.{AreWithin}
+use Rattle.policy_compiler.proofs.Within.{AreWords, none_needed, image_within, image_words}
+
+-- ---- how many writes there are
+
+mdcfg_count : (m before : ℕ) (hs : List HardwareOf) → length (mdcfg_writes m before hs) ≡ length hs
+mdcfg_count m before [] = refl
+mdcfg_count m before (h ∷ hs) = omega (arith, mdcfg_count (m + 1) (before + length h.entries) hs)
+
+enables_count : (hs : List HardwareOf) (s n : ℕ) → length (enable_writes hs s n) ≡ n
+enables_count hs s zero = refl
+enables_count hs s (suc n) = omega (arith, enables_count hs (s + 1) n)
+
+permissions_count : (rrids m : ℕ) (hs : List HardwareOf) → length (permission_writes rrids m hs) ≡ length hs
+permissions_count rrids m [] = refl
+permissions_count rrids m (h ∷ hs) = omega (arith, permissions_count rrids (m + 1) hs)
+
+members_count : (h : Shape) (hs : List HardwareOf) (b : Bool) → (h.srcmd == 0) ≡ b → length (member_writes h hs) ≤ h.rrids + length hs
+unfolding member_writes
+members_count h hs true e = rw e (omega (arith, enables_count hs 0 h.rrids))
+members_count h hs false e = rw e (omega (arith, permissions_count h.rrids 0 hs))
+
+entries_count : (i : ℕ) (es : List EntryWords) → length (entry_writes i es) ≡ 3 * length es
+entries_count i [] = refl
+entries_count i (e ∷ es) = omega (arith, entries_count (i + 1) es)
+
+hardware_count : (i : ℕ) (hs : List HardwareOf) → length (hardware_writes i hs) ≡ 3 * entry_count hs
+hardware_count i [] = refl
+hardware_count i (h ∷ hs) =
+    length-append (entry_writes i h.entries) (hardware_writes (i + length h.entries) hs) ∙ omega (arith, entries_count i h.entries, hardware_count (i + length h.entries) hs)
+
+writes_count : (h : Shape) (guards : ℕ) (hs : List HardwareOf) → length (writes_of h guards hs) ≤ 2 + h.rrids + 2 * length hs + 3 * entry_count hs
+unfolding writes_of
+writes_count h guards hs =
+    omega (arith, length-append (mdcfg_writes 0 0 hs) (member_writes h hs ++ (hardware_writes 0 hs ++ _ ∷ [])), length-append (member_writes h hs) (hardware_writes 0 hs ++ _ ∷ []), length-append (hardware_writes 0 hs) (_ ∷ []),
+    mdcfg_count 0 0 hs, members_count h hs (h.srcmd == 0) refl, hardware_count 0 hs)
+
+few_writes : (p : PolicyOf) → IsPolicy p → need_refusal p ≡ None → length (image_of p).writes ≤ 4194304
+unfolding image_of
+few_writes p good e =
+    let fits = none_needed p e in
+    let m = fits_in p good fits.0 fits.1 in
+    let domains = m.domains in
+    let entries = m.entries in
+    let rrids = good.shape.valid.rrids in
+    omega (arith, writes_count p.shape (entry_count (hardware_of Guards p.domains)) (hardware p.domains))
+
+-- ---- the commands
+
+none_submits : (ws : List RegPair) → count_by is_submit (map write_command ws) ≡ 0
+none_submits [] = refl
+none_submits (w ∷ ws) = none_submits ws
+
+valid_commands : (high : ℕ) (ws : List RegPair) → high ≤ 2 ^ 22 → AreWithin 0 high ws → AreWords ws → AreValidCommands 0 (map write_command ws)
+valid_commands high [] few within words = tt
+valid_commands high (w ∷ ws) few within words =
+    let inside = within.0 in
+    ((omega arith, omega arith, words.0), valid_commands high ws few within.1 words.1)
+
+on_unit_0 : (ws : List RegPair) → AllByRecursion (NamesUnits 1) (map write_command ws)
+on_unit_0 [] = tt
+on_unit_0 (w ∷ ws) = (omega arith, on_unit_0 ws)
+
+few_registers : (p : PolicyOf) → IsPolicy p → index_count p.shape ≤ 2 ^ 22
+few_registers p good = let few = good.shape.valid.entries in omega arith
+
+pub image_is_valid : (p : PolicyOf) → IsPolicy p → need_refusal p ≡ None → IsValidSection (image_section (image_of p))
+image_is_valid p good fits = record {
+  few = omega (arith, length-map (image_of p).writes write_command, few_writes p good fits);
+  slots = sym (none_submits (image_of p).writes);
+  commands = valid_commands (index_count p.shape) (image_of p).writes (few_registers p good) (image_within p good fits) (image_words p good fits);
+}
+
+pub image_names_unit_0 : (p : PolicyOf) → NamesOnlyUnits 1 (image_section (image_of p))
+image_names_unit_0 p = on_unit_0 (image_of p).writes
