@@ -1,15 +1,16 @@
 -- The section that makes an image's writes is valid, and names unit 0 alone.
-use Rattle.std.proofs.Common.{◌≡◌, ℕ, zero, suc, ◌^◌, ◌+◌, ◌*◌, ◌<◌, ◌≤◌, Bool, true, false, ◌==◌, List, [], ◌∷◌, ◌++◌, length, map, count_by, None, if◌then◌else◌, arith, refl, sym, ap, subst, ◌∙◌, length-append}
+use Rattle.std.proofs.Common.{◌≡◌, ℕ, zero, suc, ◌^◌, ◌+◌, ◌*◌, ◌≤◌, Bool, true, false, ◌==◌, List, [], ◌∷◌, ◌++◌, length, map, count_by, None, arith, refl, sym, ◌∙◌, length-append}
 use Rattle.std.specs.List.{AllByRecursion}
 use Rattle.std.proofs.lemmas.List.{length-map}
 use Rattle.event_words.specs.declared.shape.Shape.{Shape}
-use Rattle.event_words.specs.Registers.{index_count}
+use Rattle.event_words.specs.declared.register.Register.TheVariants.{Hwcfg0}
+use Rattle.event_words.specs.Registers.{index_of, index_count}
 use Rattle.event_words.specs.Sections.{IsValidSection, AreValidCommands, NamesUnits, NamesOnlyUnits, is_submit}
 use Rattle.policy_compiler.specs.declared.image.RegPair.{RegPair}
 use Rattle.policy_compiler.specs.declared.hardware.EntryWords.{EntryWords}
 use Rattle.policy_compiler.specs.declared.read.rules.RuleKind.TheVariants.{Guards}
-use Rattle.policy_compiler.specs.Policies.{PolicyOf, IsPolicy, IsPolicyShape}
-use Rattle.policy_compiler.specs.Images.{HardwareOf, entry_writes, hardware, hardware_of, mdcfg_writes, enable_writes, permission_writes, member_writes, hardware_writes, writes_of, image_of, entry_count}
+use Rattle.policy_compiler.specs.Policies.{PolicyOf, IsPolicy}
+use Rattle.policy_compiler.specs.Images.{HardwareOf, pair, entry_writes, hardware, hardware_of, mdcfg_writes, enable_writes, permission_writes, member_writes, hardware_writes, writes_of, image_of, entry_count}
 use Rattle.policy_compiler.specs.Needs.{need_refusal}
 use Rattle.policy_compiler.specs.Commands.{write_command, image_section}
 use Rattle.policy_compiler.proofs.Fits.{fits_in}
@@ -47,7 +48,8 @@ hardware_count i (h ∷ hs) =
 writes_count : (h : Shape) (guards : ℕ) (hs : List HardwareOf) → length (writes_of h guards hs) ≤ 2 + h.rrids + 2 * length hs + 3 * entry_count hs
 unfolding writes_of
 writes_count h guards hs =
-    omega (arith, length-append (mdcfg_writes 0 0 hs) (member_writes h hs ++ (hardware_writes 0 hs ++ _ ∷ [])), length-append (member_writes h hs) (hardware_writes 0 hs ++ _ ∷ []), length-append (hardware_writes 0 hs) (_ ∷ []),
+    let last : List RegPair = pair (index_of Hwcfg0) 1 ∷ [] in
+    omega (arith, length-append (mdcfg_writes 0 0 hs) (member_writes h hs ++ (hardware_writes 0 hs ++ last)), length-append (member_writes h hs) (hardware_writes 0 hs ++ last), length-append (hardware_writes 0 hs) last,
     mdcfg_count 0 0 hs, members_count h hs (h.srcmd == 0) refl, hardware_count 0 hs)
 
 few_writes : (p : PolicyOf) → IsPolicy p → need_refusal p ≡ None → length (image_of p).writes ≤ 4194304
