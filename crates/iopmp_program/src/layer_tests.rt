@@ -5,7 +5,7 @@ use lock_rules::keep_mask;
 use mdcfg_formats::{domain_of, span_of};
 use policy_compiler::{policy_kind, read_policy};
 use register_fields::Regs;
-use script_reader::{print_script, read_script};
+use script_reader::{print_lane, print_script, read_script};
 use shared_log::Shared;
 use std::test::Fail;
 use unit_core::Fabric;
@@ -112,6 +112,13 @@ fn names_are_printed_by_number(rt: HostRuntime) -> Result<(), Fail> {
         return Err(Fail::new("no memory"));
     };
     assert_eq!(rt; text.as_slice(), printed.as_bytes());
+    let Ok(text) = print_lane(alloc, 16, &script.boot) else {
+        return Err(Fail::new("no memory"));
+    };
+    assert_eq!(rt;
+        text.as_slice(),
+        "lane 16\nw 0 0x30 0x1\nt 0 3 r 0x0 4 as s0\nt 0 3 r 0x0 4 as s1\nj s0\nj s1\nw 0 0x30 0x0\nj s0\n".as_bytes()
+    );
     Ok(())
 }
 
