@@ -20,7 +20,7 @@ use Rattle.policy_compiler.specs.Commands.{write_command}
 use Rattle.unit_core.specs.Units.{UnitState, unit_at_reset}
 use Rattle.unit_core.specs.Fabrics.{state_after_word, reply_to_word}
 use Rattle.unit_core.specs.Histories.{IsBoot, IsOfLane, BootComesFirst, HaveRecords, IsLegalHistory, with_event, events_of_words, logged_in}
-use Rattle.history_laws.specs.Live.{IsQuietSection}
+use Rattle.event_words.specs.Sections.{WritesNothing as IsQuietSection}
 use Rattle.history_laws.proofs.EventWords.{word_event}
 use Rattle.history_laws.proofs.QuietRecords.{IsNoWrite, WritesNothing, WriteNothing, quiet_record}
 use Rattle.history_laws.proofs.Writes.{append_nothing, all_parts, all_both, all_passing, all_each}

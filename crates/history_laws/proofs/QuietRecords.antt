@@ -14,7 +14,7 @@ use Rattle.event_words.specs.declared.section.Command.TheVariants.{Write, Read, 
 use Rattle.event_words.specs.Events.{same_event}
 use Rattle.event_words.specs.Sections.{stage_units}
 use Rattle.event_words.specs.Records.{OpenSlot, Cut, first_as, judgements, polls, is_held, is_taken, hits, one_piece, submit_piece, settled, settle_piece, until_piece, next_requester, stage_following, stage_judged, stage_piece, through_stages, through_piece, piece, nothing_left, after_piece, end_from, slot_of}
-use Rattle.history_laws.specs.Live.{IsQuiet}
+use Rattle.event_words.specs.Sections.{IsNoWrite as IsQuiet}
 
 -- ---- events that write nothing
 

@@ -6,9 +6,7 @@ use Rattle.event_words.specs.declared.event.Event.TheVariants.{Submit, Judge}
 use Rattle.event_words.specs.declared.reply.Reply.TheVariants.{Verdict}
 use Rattle.event_words.specs.declared.reply.Verdict.{Verdict as AnyVerdict}
 use Rattle.event_words.specs.declared.reply.Verdict.TheVariants as verdicts
-use Rattle.event_words.specs.declared.section.Command.{Command}
-use Rattle.event_words.specs.declared.section.Command.TheVariants.{Write}
-use Rattle.event_words.specs.Sections.{SectionOf}
+use Rattle.event_words.specs.Sections.{SectionOf, WritesNothing}
 use Rattle.policy_compiler.specs.Policies.{PolicyOf, IsPolicy}
 use Rattle.policy_compiler.specs.Needs.{need_refusal}
 use Rattle.policy_compiler.specs.Images.{image_of}
@@ -55,14 +53,6 @@ KeepsPolicies old new h =
 
 -- ---- live histories
 
--- a command that writes no register
-abbrev pub IsQuiet : Command → Type 0
-IsQuiet (Write unit index value) = ⊥
-IsQuiet _ = Unit {0}
-
-abbrev pub IsQuietSection : SectionOf → Type 0
-IsQuietSection section = AllByRecursion IsQuiet section.commands
-
 -- The sections of the lanes of an update: the plan, and lanes that stand beside it.
 abbrev pub update_lanes : PolicyOf → PolicyOf → ℕ → List SectionOf → List SectionOf
 update_lanes old new polls lanes = section_with (plan_commands (image_of old) (image_of new) polls) ∷ lanes
@@ -75,7 +65,7 @@ pub record IsLiveHistory (old new : PolicyOf) (polls : ℕ) (lanes : List Sectio
   pub shapes : old.shape ≡ new.shape
   pub old_fits : need_refusal old ≡ None
   pub new_fits : need_refusal new ≡ None
-  pub quiet : AllByRecursion IsQuietSection lanes
+  pub quiet : AllByRecursion WritesNothing lanes
   pub legal : IsLegalHistory (old.shape ∷ []) (image_section (image_of old)) (update_lanes old new polls lanes) words
 
 -- Each verdict of such a history is by the policies.

@@ -2,7 +2,7 @@
 use Rattle.std.specs.Prelude.{ℕ, List, [], ◌∷◌, Option, Some, None, if◌then◌else◌, codes}
 use Rattle.std.specs.Str.{bytes_eq}
 use Rattle.iopmp_program.specs.declared.command.Command.{Command}
-use Rattle.iopmp_program.specs.declared.command.Command.TheVariants.{Run, Compile, Plan}
+use Rattle.iopmp_program.specs.declared.command.Command.TheVariants.{Run, Compile, Plan, Live}
 
 -- the command that the words after the program's name are
 abbrev pub command_of : List (List ℕ) → Option Command
@@ -11,5 +11,6 @@ command_of (word ∷ []) =
     if bytes_eq word (codes "run") then Some Run
     else (if bytes_eq word (codes "compile") then Some Compile
     else (if bytes_eq word (codes "plan") then Some Plan
-    else None))
+    else (if bytes_eq word (codes "live") then Some Live
+    else None)))
 command_of (word ∷ next ∷ more) = None

@@ -5,6 +5,8 @@ pub mod Commands
 pub mod FaultLines
 pub mod Runs
 pub mod Endings
+pub mod Running
+pub mod ScriptRuns
 pub mod Prints
 pub mod Printing
 pub mod PolicyLines
@@ -12,5 +14,6 @@ pub mod Compiles
 pub mod PlanLines
 pub mod Updates
 pub mod PlanTexts
+pub mod LiveRuns
 pub mod Givings
 pub mod Plays

@@ -6,11 +6,7 @@ use Rattle.std.specs.Prelude.{◌≡◌, ◌⊎◌, ℕ, List, None}
 use Rattle.std.specs.declared.option.Option.{Option}
 use Rattle.iopmp_program.specs.declared.status.Status.{Status}
 use Rattle.iopmp_program.specs.declared.status.Status.TheVariants.{Done, Usage, BadInput, ReadFault, WriteFault, NoMemory, TooLong}
-use Rattle.iopmp_program.specs.Endings.{Streams, WasRead, IsTooLong, WasWritten, NothingWritten, PrefixWritten, SourceFailed, SinkFailed}
-
--- what the source had left gives this
-abbrev pub OfInput : (List ℕ → List ℕ → Type 0) → Streams → List ℕ → Type 0
-OfInput Gives s text = (bytes : List ℕ) × WasRead s bytes × Gives bytes text
+use Rattle.iopmp_program.specs.Endings.{Streams, OfInput, IsTooLong, WasWritten, NothingWritten, PrefixWritten, SourceFailed, SinkFailed}
 
 module _ (IsText IsLine : List ℕ → List ℕ → Type 0) where
   -- The one text that the input gives: the output, or a fault line.

@@ -5,11 +5,9 @@ use Rattle.std.specs.declared.option.Option.{Option}
 use Rattle.std.specs.Io.KnownBytes.{Appends, Keeps}
 use Rattle.edge_io.specs.Faults.{Rose}
 use Rattle.edge_io.specs.Streams.{AppendsPrefix}
-use Rattle.script_reader.specs.declared.script.ScriptError.{ScriptError}
 use Rattle.script_reader.specs.Scripts.{ScriptOf}
 use Rattle.iopmp_program.specs.declared.status.Status.{Status}
-use Rattle.iopmp_program.specs.declared.status.Status.TheVariants.{BadInput, WriteFault, NoMemory, Done}
-use Rattle.iopmp_program.specs.FaultLines.{refusal_line}
+use Rattle.iopmp_program.specs.declared.status.Status.TheVariants.{WriteFault, NoMemory, Done}
 use Rattle.iopmp_program.specs.Runs.{IsRun}
 
 pub record SinkChange : Type 0 where
@@ -43,11 +41,6 @@ pub record HasNoMemory (k : SinkChange) (status : Status) (history : Option (Lis
 
 abbrev pub Refuses : SinkChange → Status → List ℕ → Status → Option (List ℕ) → Type 0
 Refuses k wanted line status history = WritesLine k wanted line status history ⊎ StopsInLine k line status history
-
--- the line of an input that is refused
-abbrev pub RefusesInput : SinkChange → ScriptError → Status → Option (List ℕ) → Type 0
-RefusesInput k error status history =
-    HasNoMemory k status history ⊎ ((line : List ℕ) × (refusal_line error ≡ Some line) × Refuses k BadInput line status history)
 
 -- a history of the script was made, and its whole report was written
 pub record WritesReport (k : SinkChange) (script : ScriptOf) (status : Status) (history : Option (List ℕ)) : Type 0 where

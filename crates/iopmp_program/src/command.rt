@@ -12,6 +12,8 @@ pub enum Command {
     Compile,
     /// Prints the plan from one policy to another, as a lane.
     Plan,
+    /// Plays the plan beside lanes and prints the report of its history.
+    Live,
 }
 
 /// The command that the words after the program's name are, if they are one.
@@ -22,6 +24,7 @@ pub fn command_in(words: &[String]) -> Option<Command>
         [word] if word.as_str() == "run" => Some(Command::Run),
         [word] if word.as_str() == "compile" => Some(Command::Compile),
         [word] if word.as_str() == "plan" => Some(Command::Plan),
+        [word] if word.as_str() == "live" => Some(Command::Live),
         _ => None,
     }
 }

@@ -14,6 +14,7 @@ mod fault_line;
 mod lane_tests;
 #[cfg(test)]
 mod layer_tests;
+mod live;
 mod memory;
 mod planning;
 #[cfg(test)]
@@ -25,6 +26,7 @@ mod program;
 mod record;
 mod replay;
 mod reports;
+mod running;
 mod status;
 #[cfg(test)]
 mod test_rows;

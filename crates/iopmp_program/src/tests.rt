@@ -17,6 +17,7 @@ pub struct Faults {
     chunk: usize,
 }
 
+/// Streams that never fail, in pieces of any length.
 pub const NONE: Faults = Faults {
     read: None,
     write: None,
@@ -37,6 +38,7 @@ fn numbers(alloc: Global, number: Option<u32>) -> Result<Vec<u32>, Fail> {
     Ok(numbers)
 }
 
+/// What `top` answers for these words and this input, with what the sink took.
 pub fn called<R: Threads + Sync + AllocGlobal, G: Gate + Sync>(
     rt: &R,
     words: &str,
@@ -59,6 +61,7 @@ pub fn called<R: Threads + Sync + AllocGlobal, G: Gate + Sync>(
     Ok(Ended { outcome, taken })
 }
 
+/// Whether a part stands somewhere in the text.
 pub fn has(text: &[u8], part: &[u8]) -> bool {
     part.is_empty() || text.windows(part.len().max(1)).any(|window| window == part)
 }

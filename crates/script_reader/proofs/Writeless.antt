@@ -39,32 +39,32 @@ chosen_not Q false r t off there = there
 
 read_writeless : (units : ℕ) (words : List (List ℕ)) → IfOk (read_at units words) IsNoWrite
 unfolding read_at
-read_writeless units words = chosen IsNoWrite (not (length words == 3)) _ _ tt (onward IsNoWrite (unit_at units (word_at words 1)) _ (λ unit. onward IsNoWrite (index_at (word_at words 2)) _ (λ index. refl)))
+read_writeless units words = chosen IsNoWrite (not (length words == 3)) _ _ tt (onward IsNoWrite (unit_at units (word_at words 1)) _ (λ unit. onward IsNoWrite (index_at (word_at words 2)) _ (λ index. tt)))
 
 submit_writeless : (units slot : ℕ) (words : List (List ℕ)) → IfOk (submit_at units slot words) IsNoWrite
 unfolding submit_at
 submit_writeless units slot words = chosen IsNoWrite (not (length words == 8 && is_word_at words 6 (codes "as"))) _ _ tt
-    (onward IsNoWrite (unit_at units (word_at words 1)) _ (λ unit. onward IsNoWrite (access_at words 2) _ (λ access. refl)))
+    (onward IsNoWrite (unit_at units (word_at words 1)) _ (λ unit. onward IsNoWrite (access_at words 2) _ (λ access. tt)))
 
 judge_writeless : (names words : List (List ℕ)) → IfOk (judge_at names words) IsNoWrite
 unfolding judge_at
-judge_writeless names words = chosen IsNoWrite (length words == 2) _ _ (onward IsNoWrite (slot_at names (word_at words 1)) _ (λ slot. refl)) tt
+judge_writeless names words = chosen IsNoWrite (length words == 2) _ _ (onward IsNoWrite (slot_at names (word_at words 1)) _ (λ slot. tt)) tt
 
 settle_writeless : (names words : List (List ℕ)) → IfOk (settle_at names words) IsNoWrite
 unfolding settle_at
 settle_writeless names words = chosen IsNoWrite (not (length words == 4 && is_word_at words 2 (codes "max"))) _ _ tt
-    (onward IsNoWrite (slot_at names (word_at words 1)) _ (λ slot. onward IsNoWrite (max_at (word_at words 3)) _ (λ max. refl)))
+    (onward IsNoWrite (slot_at names (word_at words 1)) _ (λ slot. onward IsNoWrite (max_at (word_at words 3)) _ (λ max. tt)))
 
 until_writeless : (units : ℕ) (words : List (List ℕ)) → IfOk (until_at units words) IsNoWrite
 unfolding until_at
 until_writeless units words = chosen IsNoWrite (not (length words == 7 && is_word_at words 5 (codes "max"))) _ _ tt
     (onward IsNoWrite (unit_at units (word_at words 1)) _ (λ unit. onward IsNoWrite (index_at (word_at words 2)) _ (λ index. onward IsNoWrite (value_at (word_at words 3)) _ (λ mask.
-    onward IsNoWrite (value_at (word_at words 4)) _ (λ value. onward IsNoWrite (max_at (word_at words 6)) _ (λ max. refl))))))
+    onward IsNoWrite (value_at (word_at words 4)) _ (λ value. onward IsNoWrite (max_at (word_at words 6)) _ (λ max. tt))))))
 
 through_writeless : (units : ℕ) (words : List (List ℕ)) → IfOk (through_at units words) IsNoWrite
 unfolding through_at
 through_writeless units words = chosen IsNoWrite (not ((nat_le 8 (length words) && nat_le (length words) 11) && is_word_at words (length words - 2) (codes "max"))) _ _ tt
-    (onward IsNoWrite (stages_at units words (length words - 7)) _ (λ stages. onward IsNoWrite (access_at words (length words - 6)) _ (λ access. onward IsNoWrite (max_at (word_at words (length words - 1))) _ (λ max. refl))))
+    (onward IsNoWrite (stages_at units words (length words - 7)) _ (λ stages. onward IsNoWrite (access_at words (length words - 6)) _ (λ access. onward IsNoWrite (max_at (word_at words (length words - 1))) _ (λ max. tt))))
 
 command_writeless : (units : ℕ) (names words : List (List ℕ)) → is_word_at words 0 (codes "w") ≡ false → IfOk (command_at units names words) IsNoWrite
 unfolding command_at
