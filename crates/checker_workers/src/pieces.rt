@@ -1,11 +1,12 @@
 // The commands of a lane, one piece of its record each. `first` is what was left of the port's budget
 // when the lane began, by which events are numbered.
-ghost use Rattle.std.specs.Prelude.{◌≡◌, ◌+◌, ◌<◌, ◌≤◌, ◌^◌, not, true, length, vec_len, vec_capacity, slice_index_or, slice_set, if◌then◌else◌};
+ghost use Rattle.std.specs.Prelude.{◌≡◌, ◌+◌, ◌<◌, ◌≤◌, ◌^◌, not, true, false, length, vec_len, vec_capacity, slice_index_or, slice_set, if◌then◌else◌};
 ghost use Rattle.event_words.specs.declared.event.Event.TheVariants as events;
 ghost use Rattle.event_words.specs.declared.section.Command.TheVariants as commands;
 ghost use Rattle.event_words.specs.Sections.{IsValidCommand, NamesUnits, most_events, is_submit};
 ghost use Rattle.event_words.specs.Valid.{IsValidAccess};
 ghost use Rattle.shared_log.specs.Callers.{Belongs};
+ghost use Rattle.cascade_path.specs.Answers.{is_odd};
 ghost use Rattle.checker_workers.specs.Ports.{unit_count};
 ghost use Rattle.checker_workers.specs.Tickets.{IsOpenTicket};
 ghost use Rattle.checker_workers.specs.Slots.{IsTicketTable};
@@ -32,6 +33,19 @@ pub(crate) struct Watch {
     pub(crate) index: u32,
     pub(crate) mask: u32,
     pub(crate) value: u32,
+}
+
+impl Watch {
+    fn new(unit: u8, index: u32, mask: u32, value: u32) -> Watch
+        ensures { result ≡ record { unit = unit; index = index; mask = mask; value = value } }
+    {
+        Watch {
+            unit,
+            index,
+            mask,
+            value,
+        }
+    }
 }
 
 // Reads a register up to `max` times, until it hits. It answers whether the last read did.
@@ -142,6 +156,17 @@ fn ticket_of(submitted: Submitted) -> Option<Ticket>
     }
 }
 
+// Whether a section goes on after a chain: it does, whatever the chain answers. None answers oddly.
+fn goes_on(answer: ChainReply) -> bool
+    requires { is_odd answer ≡ false }
+    ensures { result ≡ true }
+{
+    match answer {
+        ChainReply::Odd { .. } => unreachable!(),
+        _ => true,
+    }
+}
+
 // Plays one command. It answers whether the section goes on.
 pub(crate) fn play_command<G: Gate>(
     port: &mut Port,
@@ -194,12 +219,7 @@ pub(crate) fn play_command<G: Gate>(
             value,
             max,
         } => {
-            let watch = Watch {
-                unit,
-                index,
-                mask,
-                value,
-            };
+            let watch = Watch::new(unit, index, mask, value);
             poll(port, shared, gate, first, watch, max)
         }
         Command::Through {
@@ -208,10 +228,7 @@ pub(crate) fn play_command<G: Gate>(
             max,
         } => {
             tell(gate, port, first);
-            match port.send_through(shared, &stages, access, max) {
-                ChainReply::Odd { .. } => unreachable!(),
-                _ => true,
-            }
+            goes_on(port.send_through(shared, &stages, access, max))
         }
     }
 }

@@ -1,7 +1,9 @@
-use Rattle.std.proofs.Common.{false, not, refl, sym, subst}
+use Rattle.std.proofs.Common.{Bool, false, not, sym, subst}
+use Rattle.event_words.specs.declared.event.Event.TheVariants as events
 use Rattle.event_words.specs.declared.reply.Reply.TheVariants as replies
 use Rattle.event_words.specs.declared.section.Command.{Command}
-use Rattle.checker_workers.specs.Pieces.{PlaysCommand}
+use Rattle.checker_workers.specs.declared.pieces.Watch.{Watch}
+use Rattle.checker_workers.specs.Pieces.{Polls, PlaysCommand}
 use Rattle.checker_workers.proofs.Commands.{plays_write, plays_read, plays_submit_as, plays_until, plays_through}
 use Rattle.checker_workers.proofs.pieces.play_command.Goals as goal
 
@@ -22,13 +24,13 @@ returns-in-Submit-clause-plays g c =
 
 pub returns-in-Until-clause-plays : goal.returns-in-Until-clause-plays
 returns-in-Until-clause-plays g c =
+    let polled : Polls c.args.port.now (events.RegRead c.in-Until.unit c.args.port.now.number c.in-Until.index) c.in-Until.mask c.in-Until.value c.in-Until.max c.poll.result c.poll.new.port =
+    subst (λ (w : Watch). Polls c.args.port.now (events.RegRead w.unit c.args.port.now.number w.index) w.mask w.value c.in-Until.max c.poll.result c.poll.new.port) c.new-watch.ensures c.poll.ensures in
     subst (λ (k : Command). PlaysCommand c.args.port.now c.args.table.now.items k c.poll.new.port c.args.table.now.items (not c.poll.result)) (sym c.in-Until.is)
-    (plays_until c.args.port.now c.poll.new.port c.args.table.now.items c.in-Until.unit c.in-Until.index c.in-Until.mask c.in-Until.value c.in-Until.max c.poll.result c.poll.ensures c.requires.tickets)
+    (plays_until c.args.port.now c.poll.new.port c.args.table.now.items c.in-Until.unit c.in-Until.index c.in-Until.mask c.in-Until.value c.in-Until.max c.poll.result polled c.requires.tickets)
 
-pub returns-in_default : goal.returns-in_default
-returns-in_default g c = record {
-  plays = subst (λ (k : Command). PlaysCommand c.args.port.now c.args.table.now.items k c.send_through.new.self c.args.table.now.items false) (sym c.in-Through.is)
-      (plays_through c.args.port.now c.send_through.new.self c.args.table.now.items c.in-Through.stages c.in-Through.access c.in-Through.max c.send_through.result c.send_through.ensures c.requires.tickets);
-  count = rw c.in-Through.is refl;
-  capacity = refl;
-}
+pub returns-in-Through-clause-plays : goal.returns-in-Through-clause-plays
+returns-in-Through-clause-plays g c =
+    subst (λ (goes : Bool). PlaysCommand c.args.port.now c.args.table.now.items c.args.command c.send_through.new.self c.args.table.now.items (not goes)) (sym c.goes_on.ensures)
+    (subst (λ (k : Command). PlaysCommand c.args.port.now c.args.table.now.items k c.send_through.new.self c.args.table.now.items false) (sym c.in-Through.is)
+    (plays_through c.args.port.now c.send_through.new.self c.args.table.now.items c.in-Through.stages c.in-Through.access c.in-Through.max c.send_through.result c.send_through.ensures c.requires.tickets))
