@@ -4,3 +4,5 @@ pub mod Endings
 pub mod PrintingEndings
 pub mod Plays
 pub mod Updates
+pub mod LiveScripts
+pub mod RunEndings

@@ -1,7 +1,7 @@
 // The printed script of a policy's image.
 ghost use Rattle.std.specs.Prelude.{◌≡◌, map, IfOk};
 ghost use Rattle.policy_compiler.specs.Policies.{IsPolicy};
-ghost use Rattle.policy_compiler.specs.Commands.{write_command};
+ghost use Rattle.policy_compiler.specs.Commands.{write_command, image_section};
 ghost use Rattle.iopmp_program.specs.PolicyLines.{need_line};
 ghost use Rattle.iopmp_program.specs.Givings.{HasLine, GivesText, IsPrinted, IsTooMuch};
 ghost use Rattle.iopmp_program.specs.Compiles.{image_script, IsCompiled, IsRefused};
@@ -39,16 +39,23 @@ fn write_commands(alloc: Global, writes: &[RegPair]) -> Result<Vec<Command>, All
     writes.iter().map(|pair| write_command(pair)).collect(alloc)
 }
 
+/// The section that makes an image's writes on unit 0.
+pub fn image_section(alloc: Global, image: &Image) -> Result<Section, AllocError>
+    ensures { IfOk result (λ section. section ≡ image_section image.now) }
+{
+    let commands = write_commands(alloc, &image.writes)?;
+    Ok(Section { commands, slots: 0 })
+}
+
 /// The script that has the image's shape as its one unit, its writes as the boot section and no lane.
 fn image_script(alloc: Global, image: &Image) -> Result<Script, AllocError>
     ensures { IfOk result (λ script. script ≡ image_script image.now) }
 {
     let mut shapes = Vec::new(alloc);
     shapes.push(image.shape)?;
-    let commands = write_commands(alloc, &image.writes)?;
     Ok(Script {
         shapes,
-        boot: Section { commands, slots: 0 },
+        boot: image_section(alloc, image)?,
         lanes: Vec::new(alloc),
     })
 }
