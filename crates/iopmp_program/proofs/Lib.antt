@@ -6,3 +6,4 @@ pub mod Plays
 pub mod Updates
 pub mod LiveScripts
 pub mod RunEndings
+pub mod LiveCompletes

@@ -24,3 +24,10 @@ returns-in-Err-Refused g c =
     (subst (λ l. IsPlayedLine c.args.played c.in-Ok.bytes.items l) (sym (c.as_bytes-in-Err-Refused.ensures.value ∙ ap string_bytes c.in-Err-Refused.line-is))
     (subst (λ b. IsPlayedLine c.args.played b (string_bytes line)) c.deref.ensures.value h))
     c.refuse-in-Err-Refused.ensures
+
+pub returns-in-Ok-script_of : goal.returns-in-Ok-script_of
+returns-in-Ok-script_of g c =
+    played_ends c.law_live.ensures c.args.played _ c.in-Ok.bytes.items c.in-Ok-script_of.script _ _
+    (record { whole = c.in-Ok.ensures.all; end = c.in-Ok.ensures.end; few = c.in-Ok.ensures.within })
+    (subst (λ b. IsScript c.args.played b c.in-Ok-script_of.script) c.deref.ensures.value c.in-Ok-script_of.ensures.script)
+    c.print_run.ensures
