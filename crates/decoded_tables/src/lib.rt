@@ -13,6 +13,8 @@ mod decoded;
 mod entries;
 mod priority;
 mod steps;
+#[cfg(test)]
+mod tests;
 
 pub use decoded::Decoded;
 pub use steps::Steps;

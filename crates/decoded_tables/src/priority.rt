@@ -78,6 +78,9 @@ pub fn first_touching<L: Ledger>(
     let limit = prio_end(regs);
     let mut from = 0;
     for domain in 0..shape.domains {
+        if from == limit {
+            return None;
+        }
         let to = run_end(regs, domain, from, limit);
         if has_domain(domains, domain) {
             if let Some(hit) = first_in(decoded, access, Run { domain, from, to }, looks) {
