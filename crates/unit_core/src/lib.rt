@@ -4,6 +4,8 @@
 mod fabric;
 mod parts;
 mod places;
+mod tables;
+pub use tables::Tables;
 
 use event_words::Access;
 pub use fabric::{Fabric, NoMemory};
