@@ -3,24 +3,25 @@ ghost use Rattle.event_words.specs.Valid.{IsValidAccess};
 ghost use Rattle.event_words.specs.Registers.{written};
 ghost use Rattle.event_words.specs.Guards.{guarded_bits};
 ghost use Rattle.event_words.specs.Decisions.{decision};
+ghost use Rattle.event_words.specs.Denials.{denial, recorded};
 ghost use Rattle.event_words.specs.Stalls.{flag_of, flags_after};
 ghost use Rattle.stall_queue.specs.Queues.{Queue, is_of, is_not_of};
 ghost use Rattle.stall_control.specs.Counts.{count_in, added_at};
 ghost use Rattle.unit_core.specs.Units.{stall_code};
 ghost use Rattle.unit_core.specs.Parts.{part_read, IsReleased, IsWritten, part_submit, part_verdict};
 
-use error_capture::{capture, denial};
-use event_words::{Access, Decision, Register, Reply, Verdict};
+use crate::decoded_regs::DecodedRegs;
+use error_capture::denial;
+use event_words::{Access, Decision, Denial, Register, Reply, Verdict};
 use lock_rules::keep_mask;
-use match_rules::decide;
 use register_fields::{Regs, has_bit};
 use stall_control::StallState;
 use stall_queue::{Released, StallQueue};
 
-/// One unit: its registers, its stall state and its queue.
+/// One unit: its registers with their decoded ranges, its stall state and its queue.
 #[derive(Drop)]
 pub struct UnitParts {
-    pub regs: Regs,
+    pub regs: DecodedRegs,
     pub stall: StallState,
     pub queue: StallQueue,
 }
@@ -42,19 +43,20 @@ fn stall_code(regs: &Regs, stall: &StallState, rrid: u32) -> u32
 pub fn read(unit: &UnitParts, index: u32) -> u32
     ensures { result ≡ part_read unit.now index }
 {
-    let _shape = unit.regs.shape();
-    let word = unit.regs.read(index);
+    let regs = unit.regs.as_regs();
+    let _shape = regs.shape();
+    let word = regs.read(index);
     match index {
         12 => word + unit.stall.busy() as u32,
-        14 => word + (stall_code(&unit.regs, &unit.stall, word) << 30),
+        14 => word + (stall_code(regs, &unit.stall, word) << 30),
         _ => word,
     }
 }
 
-fn write_word(regs: &mut Regs, index: u32, value: u32)
+fn write_word(regs: &mut DecodedRegs, index: u32, value: u32)
     ensures { regs.new ≡ written regs.old index value (guarded_bits regs.old index) }
 {
-    let keep = keep_mask(regs, index);
+    let keep = keep_mask(regs.as_regs(), index);
     regs.write(index, value, keep);
 }
 
@@ -103,10 +105,29 @@ pub fn write(unit: &mut UnitParts, index: u32, value: u32)
     requires room { (s : ℕ) → count_in unit.old.stall.counts s + count_by (is_of s) unit.old.queue.items ≤ 1048576 }
     ensures { IsWritten unit.old unit.new index value }
 {
-    let rrids = unit.regs.shape().rrids;
-    change_flags(&unit.regs, &mut unit.stall, index, value);
+    let rrids = unit.regs.as_regs().shape().rrids;
+    change_flags(unit.regs.as_regs(), &mut unit.stall, index, value);
     write_word(&mut unit.regs, index, value);
     release(&mut unit.stall, &mut unit.queue, rrids);
+}
+
+// Answers a violation of a transaction, and records it.
+fn refuse(
+    regs: &mut DecodedRegs,
+    access: &Access,
+    kind: u8,
+    entry: u16,
+    mute_irq: bool,
+    mute_err: bool,
+) -> Denial
+    requires access { IsValidAccess access.now }
+    requires kind { (1 ≤ kind) × (kind ≤ 7) }
+    ensures regs { regs.new ≡ recorded regs.old access.now (denial regs.old kind entry mute_irq mute_err) }
+    ensures denied { result ≡ denial regs.old kind entry mute_irq mute_err }
+{
+    let denied = denial(regs.as_regs(), kind, entry, mute_irq, mute_err);
+    regs.capture(access, &denied);
+    denied
 }
 
 /// Takes a submission at a place.
@@ -121,10 +142,8 @@ pub fn submit(unit: &mut UnitParts, place: u32, access: &Access) -> Reply
         Reply::Passed
     } else if unit.queue.push(place, access.rrid).is_ok() {
         Reply::Queued
-    } else if has_bit(unit.regs.word(Register::ErrCfg), 3) {
-        let denied = denial(&unit.regs, 7, 0xffff, false, false);
-        capture(&mut unit.regs, access, &denied);
-        Reply::Stalled(denied)
+    } else if has_bit(unit.regs.as_regs().word(Register::ErrCfg), 3) {
+        Reply::Stalled(refuse(&mut unit.regs, access, 7, 0xffff, false, false))
     } else {
         Reply::Busy
     }
@@ -137,21 +156,17 @@ pub fn verdict(unit: &mut UnitParts, access: &Access) -> Verdict
     ensures unit { unit.new ≡ (part_verdict unit.old access.now (decision unit.old.regs access.now)).0 }
     ensures verdict { result ≡ (part_verdict unit.old access.now (decision unit.old.regs access.now)).1 }
 {
-    let decision = decide(&unit.regs, access);
+    let decision = unit.regs.decide(access);
     unit.stall.leave(access.rrid);
     match decision {
         Decision::Allowed => Verdict::Allowed {
-            next: unit.regs.shape().transl.unwrap_or(access.rrid),
+            next: unit.regs.as_regs().shape().transl.unwrap_or(access.rrid),
         },
         Decision::Denied {
             kind,
             entry,
             mute_irq,
             mute_err,
-        } => {
-            let denied = denial(&unit.regs, kind, entry, mute_irq, mute_err);
-            capture(&mut unit.regs, access, &denied);
-            Verdict::Denied(denied)
-        }
+        } => Verdict::Denied(refuse(&mut unit.regs, access, kind, entry, mute_irq, mute_err)),
     }
 }

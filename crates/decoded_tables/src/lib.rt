@@ -1,0 +1,24 @@
+//! The byte ranges of a unit's entries, kept decoded beside its registers, and what the tables decide
+//! about a transaction by them.
+//!
+//! A [`Decoded`] has one optional range per entry. It stands for the registers that it was made of:
+//! item i has exactly the bytes of entry i. After a register write, [`Decoded::refresh`] decodes anew
+//! only the entries that the written register can change, and the value stands for the new registers.
+//! [`Decoded::decide`] walks the domains of the requester and looks at the ranges of their entries alone.
+#![tactic(auto)]
+
+mod changes;
+mod covering;
+mod decoded;
+mod entries;
+mod priority;
+mod steps;
+#[cfg(test)]
+mod tests;
+
+pub use decoded::Decoded;
+pub use steps::Steps;
+
+/// There was no memory.
+#[derive(Clone, Copy, Debug, PartialEq, Eq)]
+pub struct NoMemory;
