@@ -21,3 +21,8 @@ pub mod OneHistoryLaw
 pub mod Numerals
 pub mod EventTexts
 pub mod EqualReportsLaw
+pub mod QuietRecords
+pub mod WriteRecords
+pub mod Writes
+pub mod UnitStands
+pub mod LiveLists

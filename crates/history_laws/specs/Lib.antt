@@ -8,3 +8,4 @@ pub mod Laws
 pub mod Lengths
 pub mod OneHistory
 pub mod EqualReports
+pub mod Live

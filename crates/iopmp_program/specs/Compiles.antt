@@ -12,6 +12,7 @@ use Rattle.policy_compiler.specs.Policies.{PolicyOf}
 use Rattle.policy_compiler.specs.Gives.{Reads}
 use Rattle.policy_compiler.specs.Needs.{need_refusal}
 use Rattle.policy_compiler.specs.Images.{ImageOf, image_of}
+use Rattle.policy_compiler.specs.Commands.{image_section}
 use Rattle.policy_compiler.specs.Laws.{DecidesAs}
 use Rattle.iopmp_program.specs.declared.status.Status.{Status}
 use Rattle.iopmp_program.specs.declared.status.Status.TheVariants.{Done, Usage, BadInput, ReadFault, WriteFault, NoMemory, TooLong}
@@ -20,12 +21,9 @@ use Rattle.iopmp_program.specs.Endings.{Streams, WasRead, IsTooLong, WasWritten,
 
 -- ---- the script of an image
 
-abbrev pub write_command : RegPair → Command
-write_command w = Write 0 w.index w.value
-
 -- one unit of the image's shape, the image's writes as its boot section, and no lane
 abbrev pub image_script : ImageOf → ScriptOf
-image_script i = record { shapes = i.shape ∷ []; boot = record { commands = map write_command i.writes; slots = 0 }; lanes = [] }
+image_script i = record { shapes = i.shape ∷ []; boot = image_section i; lanes = [] }
 
 -- ---- what a text gives
 

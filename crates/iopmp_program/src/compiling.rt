@@ -6,7 +6,8 @@ ghost use Rattle.iopmp_program.specs.PolicyLines.{policy_line, need_line};
 ghost use Rattle.iopmp_program.specs.ImageTexts.{HasLine, PrintsPolicy, PrintsImage};
 ghost use Rattle.iopmp_program.specs.Prints.{sink_change, Refuses};
 ghost use Rattle.iopmp_program.specs.Endings.{streams};
-ghost use Rattle.iopmp_program.specs.Compiles.{write_command, image_script, EndsCompile};
+ghost use Rattle.policy_compiler.specs.Commands.{write_command};
+ghost use Rattle.iopmp_program.specs.Compiles.{image_script, EndsCompile};
 
 use crate::NoMemory;
 use crate::fault_line::too_long_line;

@@ -25,7 +25,7 @@ use Rattle.policy_compiler.proofs.Decided.{IsCompiled, decided}
 
 -- ---- the writes between the first and the last
 
-abbrev table_writes : Shape → List HardwareOf → List RegPair
+abbrev pub table_writes : Shape → List HardwareOf → List RegPair
 table_writes h hs = mdcfg_writes 0 0 hs ++ (member_writes h hs ++ hardware_writes 0 hs)
 
 -- hardware domains that a shape has room for, with entries of 38 bits
@@ -35,7 +35,7 @@ pub record HasRoom (h : Shape) (hs : List HardwareOf) : Type 0 where
   pub entries : entry_count hs ≤ h.entries
   pub good : AreEntries (all_entries hs)
 
-format_of : (h : Shape) → IsPolicyShape h → (h.srcmd ≡ 0) ⊎ (h.srcmd ≡ 2)
+pub format_of : (h : Shape) → IsPolicyShape h → (h.srcmd ≡ 0) ⊎ (h.srcmd ≡ 2)
 format_of h good = by_test (h.srcmd == 0) refl
   where
     by_test : (b : Bool) → (h.srcmd == 0) ≡ b → (h.srcmd ≡ 0) ⊎ (h.srcmd ≡ 2)
@@ -57,7 +57,7 @@ plain_members h hs room (inr f) = rw (members_2 h hs f) (plain_permissions h 0 h
 plain_hardware : (h : Shape) (hs : List HardwareOf) → HasRoom h hs → ArePlain h (hardware_writes 0 hs)
 plain_hardware h hs room = rw (hardware_entries 0 hs) (plain_entries h 0 (all_entries hs) (let e = length_all hs in let n = room.entries in omega arith) room.good)
 
-plain_tables : (h : Shape) (hs : List HardwareOf) → HasRoom h hs → ArePlain h (table_writes h hs)
+pub plain_tables : (h : Shape) (hs : List HardwareOf) → HasRoom h hs → ArePlain h (table_writes h hs)
 plain_tables h hs room =
     let few = room.shape.valid.entries in
     let n = room.entries in
@@ -68,23 +68,23 @@ plain_tables h hs room =
 -- ---- the registers after all writes
 
 -- after the first write, after the tables, and at the end
-abbrev first_of : Shape → ℕ → Registers
+abbrev pub first_of : Shape → ℕ → Registers
 first_of h g = set_word (at_reset h) 4 (prio_word (at_reset h) g)
 
-abbrev tables_of : Shape → ℕ → List HardwareOf → Registers
+abbrev pub tables_of : Shape → ℕ → List HardwareOf → Registers
 tables_of h g hs = after_writes (first_of h g) (table_writes h hs)
 
-abbrev last_of : Shape → ℕ → List HardwareOf → Registers
+abbrev pub last_of : Shape → ℕ → List HardwareOf → Registers
 last_of h g hs = set_word (tables_of h g hs) 2 (enable_word (tables_of h g hs))
 
-writes_split : (h : Shape) (g : ℕ) (hs : List HardwareOf) → writes_of h g hs ≡ pair 4 g ∷ (table_writes h hs ++ pair 2 1 ∷ [])
+pub writes_split : (h : Shape) (g : ℕ) (hs : List HardwareOf) → writes_of h g hs ≡ pair 4 g ∷ (table_writes h hs ++ pair 2 1 ∷ [])
 unfolding writes_of
 writes_split h g hs =
     ap (λ ps. pair 4 g ∷ ps)
     (ap (λ ps. mdcfg_writes 0 0 hs ++ ps) (sym (append_assoc (member_writes h hs) (hardware_writes 0 hs) (pair 2 1 ∷ [])))
     ∙ sym (append_assoc (mdcfg_writes 0 0 hs) (member_writes h hs ++ hardware_writes 0 hs) (pair 2 1 ∷ [])))
 
-after_is : (h : Shape) (g : ℕ) (hs : List HardwareOf) → after_writes (at_reset h) (writes_of h g hs) ≡ last_of h g hs
+pub after_is : (h : Shape) (g : ℕ) (hs : List HardwareOf) → after_writes (at_reset h) (writes_of h g hs) ≡ last_of h g hs
 after_is h g hs = ap (after_writes (at_reset h)) (writes_split h g hs) ∙ after_append (first_of h g) (table_writes h hs) (pair 2 1 ∷ [])
 
 -- the words after the tables
@@ -127,7 +127,7 @@ mdcfg_reset h g m good p =
     get_or-set_other (at_reset h).words 4 (512 + m) (prio_word (at_reset h) g) 0 (λ e. absurd (omega arith))
     ∙ (reset_read h (512 + m) (omega arith) ∙ ap (reset_of h) (register_at-Mdcfg h m good.mdcfg (omega arith) p))
 
-mdcfg_word : (h : Shape) (g : ℕ) (hs : List HardwareOf) (m : ℕ) → HasRoom h hs → m < h.domains → word_at (last_of h g hs) (512 + m) ≡ end_at 0 hs m
+pub mdcfg_word : (h : Shape) (g : ℕ) (hs : List HardwareOf) (m : ℕ) → HasRoom h hs → m < h.domains → word_at (last_of h g hs) (512 + m) ≡ end_at 0 hs m
 mdcfg_word h g hs m room p =
     let few = room.shape.valid.domains in
     let d = room.domains in
@@ -137,10 +137,10 @@ mdcfg_word h g hs m room p =
     ∙ (ap (λ k. get_or (words_1 h g hs) (512 + k) 0) (sym z)
     ∙ mdcfg_read (first_of h g).words 0 0 hs m (omega arith) (λ l. ap (λ k. get_or (first_of h g).words (512 + k) 0) z ∙ mdcfg_reset h g m room.shape p))
 
-shape_of : (h : Shape) (g : ℕ) (hs : List HardwareOf) → HasRoom h hs → (last_of h g hs).shape ≡ h
+pub shape_of : (h : Shape) (g : ℕ) (hs : List HardwareOf) → HasRoom h hs → (last_of h g hs).shape ≡ h
 shape_of h g hs room = (tables_put h g hs room).calm.shape
 
-small_bits : (w : ℕ) → w < 2 ^ 16 → bits_of 0 16 w ≡ w
+pub small_bits : (w : ℕ) → w < 2 ^ 16 → bits_of 0 16 w ≡ w
 small_bits w h = omega arith
 
 bound_is : (h : Shape) (g : ℕ) (hs : List HardwareOf) (m : ℕ) → HasRoom h hs → m < h.domains → bound_of (last_of h g hs) m ≡ end_at 0 hs m
@@ -161,7 +161,7 @@ row_read h g hs s room p = last_read h g hs (1024 + 8 * s) room (λ e. absurd (o
 length_1 : (h : Shape) (g : ℕ) (hs : List HardwareOf) → length (words_1 h g hs) ≡ index_count h
 length_1 h g hs = length_puts (first_of h g).words (mdcfg_writes 0 0 hs) ∙ first_length h g
 
-enable_word_is : (h : Shape) (g : ℕ) (hs : List HardwareOf) (s : ℕ) → HasRoom h hs → h.srcmd ≡ 0 → s < h.rrids → word_at (last_of h g hs) (1024 + 8 * s) ≡ enable_bits s 0 hs
+pub enable_word_is : (h : Shape) (g : ℕ) (hs : List HardwareOf) (s : ℕ) → HasRoom h hs → h.srcmd ≡ 0 → s < h.rrids → word_at (last_of h g hs) (1024 + 8 * s) ≡ enable_bits s 0 hs
 enable_word_is h g hs s room f p =
     let few = room.shape.valid.rrids in
     let n = length_1 h g hs in
@@ -171,7 +171,7 @@ enable_word_is h g hs s room f p =
     ∙ (ap (λ k. get_or (puts (words_1 h g hs) (enable_writes hs 0 h.rrids)) (1024 + 8 * k) 0) (sym z)
     ∙ (enables_read (words_1 h g hs) hs 0 h.rrids s p (omega arith) ∙ ap (λ k. enable_bits k 0 hs) z)))
 
-permission_word_is : (h : Shape) (g : ℕ) (hs : List HardwareOf) (m : ℕ) → HasRoom h hs → h.srcmd ≡ 2 → m < length hs → word_at (last_of h g hs) (1024 + 8 * m) ≡ permissions h.rrids (members_at hs m)
+pub permission_word_is : (h : Shape) (g : ℕ) (hs : List HardwareOf) (m : ℕ) → HasRoom h hs → h.srcmd ≡ 2 → m < length hs → word_at (last_of h g hs) (1024 + 8 * m) ≡ permissions h.rrids (members_at hs m)
 permission_word_is h g hs m room f p =
     let few = room.shape.valid.domains in
     let d = room.domains in
@@ -214,7 +214,7 @@ still_read ws i (e ∷ es) v h = (
   still_read ws (i + 1) es v h.3,
 )
 
-entries_are : (h : Shape) (g : ℕ) (hs : List HardwareOf) → HasRoom h hs → ReadsEntries (last_of h g hs).words 0 (all_entries hs)
+pub entries_are : (h : Shape) (g : ℕ) (hs : List HardwareOf) → HasRoom h hs → ReadsEntries (last_of h g hs).words 0 (all_entries hs)
 entries_are h g hs room =
     let n = length_2 h g hs in
     let l = length_all hs in
@@ -249,7 +249,7 @@ fit_entries : (p : PolicyOf) → entry_count (hardware p.domains) ≡ need_entri
 unfolding need_entries
 fit_entries p = count_append (hardware_of Guards p.domains) (hardware_of Grants p.domains) ∙ omega (arith, kind_entries Guards p.domains, kind_entries Grants p.domains)
 
-room_of : (p : PolicyOf) → IsPolicy p → need_domains p ≤ p.shape.domains → need_entries p ≤ p.shape.entries → HasRoom p.shape (hardware p.domains)
+pub room_of : (p : PolicyOf) → IsPolicy p → need_domains p ≤ p.shape.domains → need_entries p ≤ p.shape.entries → HasRoom p.shape (hardware p.domains)
 room_of p good d e = record {
   shape = good.shape;
   domains = let x = fit_domains p in omega arith;
@@ -279,7 +279,7 @@ compiled p room =
       fits = omega arith;
     }
 
-image_registers : (p : PolicyOf) → registers_after (image_of p) ≡ last_of p.shape (entry_count (hardware_of Guards p.domains)) (hardware p.domains)
+pub image_registers : (p : PolicyOf) → registers_after (image_of p) ≡ last_of p.shape (entry_count (hardware_of Guards p.domains)) (hardware p.domains)
 unfolding registers_after image_of
 image_registers p = after_is p.shape (entry_count (hardware_of Guards p.domains)) (hardware p.domains)
 

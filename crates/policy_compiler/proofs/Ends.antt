@@ -51,7 +51,7 @@ calm_reset h = record {
   enables = λ f s l. let e = reset_read h (1024 + 8 * s) (omega arith) ∙ enable_reset h s f l in omega arith;
 }
 
-bool_small : (b : Bool) → count_of_bool b < 2
+pub bool_small : (b : Bool) → count_of_bool b < 2
 bool_small true = omega arith
 bool_small false = omega arith
 
@@ -93,13 +93,13 @@ prio_word r g = merged (guards_of r (Some Hwcfg2)) (word_at r 4) (ruled_word (fi
 pub prio_write : (r : Registers) (g : ℕ) → guarded_write r (pair 4 g) ≡ set_word r 4 (prio_word r g)
 prio_write r g = refl
 
-merged_low : (k keep old new : ℕ) → keep % 2 ^ k ≡ 0 → bit_not w32 keep % 2 ^ k ≡ 2 ^ k - 1 → merged keep old new % 2 ^ k ≡ new % 2 ^ k
+pub merged_low : (k keep old new : ℕ) → keep % 2 ^ k ≡ 0 → bit_not w32 keep % 2 ^ k ≡ 2 ^ k - 1 → merged keep old new % 2 ^ k ≡ new % 2 ^ k
 merged_low k keep old new e f =
     let a : bit_and old keep % 2 ^ k ≡ 0 = and_mod old keep k ∙ (ap (bit_and (old % 2 ^ k)) e ∙ omega (arith, and_le_r (old % 2 ^ k) 0)) in
     let b : bit_and new (bit_not w32 keep) % 2 ^ k ≡ new % 2 ^ k % 2 ^ k = and_mod new (bit_not w32 keep) k ∙ (ap (bit_and (new % 2 ^ k)) f ∙ and_mask (new % 2 ^ k) k) in
     or_mod (bit_and old keep) (bit_and new (bit_not w32 keep)) k ∙ (ap (λ x. bit_or x (bit_and new (bit_not w32 keep) % 2 ^ k)) a ∙ (or_zero_l _ ∙ (b ∙ mod-eq_of_lt (omega (arith, pow_pos k)))))
 
-prio_kept : (r : Registers) → is_prient_prog r ≡ true → guards_of r (Some Hwcfg2) ≡ 4294901760
+pub prio_kept : (r : Registers) → is_prient_prog r ≡ true → guards_of r (Some Hwcfg2) ≡ 4294901760
 prio_kept r e = rw e refl
 
 pub prio_read : (h : Shape) (r : Registers) (g : ℕ) → IsPolicyShape h → IsCalm h r → g < 2 ^ 16 → bits_of 0 16 (prio_word r g) ≡ g
@@ -121,7 +121,7 @@ enable_word r = merged (guards_of r (Some Hwcfg0)) (word_at r 2) (ruled_word (fi
 pub enable_last : (r : Registers) → guarded_write r (pair 2 1) ≡ set_word r 2 (enable_word r)
 enable_last r = refl
 
-enable_kept : (r : Registers) → is_enabled r ≡ false → is_prient_prog r ≡ true → r.shape.mdcfg ≡ 0 → guards_of r (Some Hwcfg0) ≡ 16654334
+pub enable_kept : (r : Registers) → is_enabled r ≡ false → is_prient_prog r ≡ true → r.shape.mdcfg ≡ 0 → guards_of r (Some Hwcfg0) ≡ 16654334
 enable_kept r e p f = rw (e, p, f) refl
 
 enable_ruled : (r : Registers) → word_at r 2 % 2 ≡ 0 → r.shape.mdcfg ≡ 0 → ruled_word (fields_of r.shape Hwcfg0) (word_at r 2) 1 % 2 ^ 1 ≡ 1

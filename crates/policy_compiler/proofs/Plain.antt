@@ -6,7 +6,7 @@ use Rattle.std.specs.List.{AllByRecursion}
 use Rattle.std.proofs.Math.Nat.{mod-eq_of_lt}
 use Rattle.std.proofs.Math.Pow.{pow_mono}
 use Rattle.std.proofs.Math.ListN.{length-set}
-use Rattle.std.proofs.lemmas.Nat.{and_le_r, and_mask}
+use Rattle.std.proofs.lemmas.Nat.{and_le_r, and_mask, pow_pos}
 use Rattle.std.proofs.lemmas.Nat.Bits.{bit_at-zero}
 use Rattle.std.proofs.lemmas.List.{get_or-set_same, get_or-set_other, get_or_past}
 use Rattle.std.proofs.lemmas.Bool.{cases_eq, cases_lt}
@@ -22,6 +22,15 @@ use Rattle.policy_compiler.specs.Policies.{IsPolicyShape}
 use Rattle.policy_compiler.specs.Images.{pair}
 use Rattle.policy_compiler.specs.Laws.{guarded_write, after_writes}
 
+-- no lock is set
+pub record IsUnlocked (h : Shape) (r : Registers) : Type 0 where
+  pub shape : r.shape ≡ h
+  pub len : length r.words ≡ index_count h
+  pub mdlck : word_at r 16 ≡ 0
+  pub mdcfglck : word_at r 18 ≡ 0
+  pub entrylck : word_at r 19 ≡ 0
+  pub enables : h.srcmd ≡ 0 → (s : ℕ) → s < 64 → word_at r (1024 + 8 * s) % 2 ≡ 0
+
 -- no lock is set, and the unit isn't enabled
 pub record IsCalm (h : Shape) (r : Registers) : Type 0 where
   pub shape : r.shape ≡ h
@@ -32,13 +41,18 @@ pub record IsCalm (h : Shape) (r : Registers) : Type 0 where
   pub hwcfg0 : word_at r 2 ≡ reset_word h 2
   pub enables : h.srcmd ≡ 0 → (s : ℕ) → s < 64 → word_at r (1024 + 8 * s) % 2 ≡ 0
 
--- a write of a table register that changes its word alone
+pub unlocked : (h : Shape) (r : Registers) → IsCalm h r → IsUnlocked h r
+unlocked h r c = record { shape = c.shape; len = c.len; mdlck = c.mdlck; mdcfglck = c.mdcfglck; entrylck = c.entrylck; enables = c.enables }
+
+-- a write of a table register that changes its word alone, and so does a write of 0
 pub record IsPlain (h : Shape) (w : RegPair) : Type 0 where
-  pub alone : (r : Registers) → IsCalm h r → guarded_write r w ≡ set_word r w.index w.value
-  pub high : 20 ≤ w.index
+  pub alone : (r : Registers) → IsUnlocked h r → guarded_write r w ≡ set_word r w.index w.value
+  pub cleared : (r : Registers) → IsUnlocked h r → guarded_write r (pair w.index 0) ≡ set_word r w.index 0
+  pub table : 512 ≤ w.index
+  pub inside : w.index < index_count h
   pub even : h.srcmd ≡ 0 → (s : ℕ) → s < 64 → w.index ≡ 1024 + 8 * s → w.value % 2 ≡ 0
 
-set_even : (ws : List ℕ) (i j v : ℕ) → get_or ws j 0 % 2 ≡ 0 → (i ≡ j → v % 2 ≡ 0) → get_or (set ws i v) j 0 % 2 ≡ 0
+pub set_even : (ws : List ℕ) (i j v : ℕ) → get_or ws j 0 % 2 ≡ 0 → (i ≡ j → v % 2 ≡ 0) → get_or (set ws i v) j 0 % 2 ≡ 0
 set_even ws i j v old new = ⊎_elim
     (λ (e : j ≡ i). ⊎_elim
     (λ (below : i < length ws). rw (e, get_or-set_same ws i v 0 below) (new (sym e)))
@@ -122,15 +136,20 @@ register_at-SrcmdPerm h m f few p =
 nothing_below : (m : ℕ) → ltb m 0 ≡ false
 nothing_below m = search (nat_tests, arith)
 
+mdcfg_alone : (h : Shape) (m v : ℕ) → IsPolicyShape h → m < h.domains → v < 2 ^ 16 → (r : Registers) → IsUnlocked h r → guarded_write r (pair (512 + m) v) ≡ set_word r (512 + m) v
+mdcfg_alone h m v good p small r c =
+    let f : r.shape.mdcfg ≡ 0 = ap (λ (x : Shape). x.mdcfg) c.shape ∙ good.mdcfg in
+    let d : r.shape.domains ≡ h.domains = ap (λ (x : Shape). x.domains) c.shape in
+    let few = good.valid.domains in
+    let locks : locks_of r (Mdcfg m) ≡ 0 = rw (c.mdcfglck, nothing_below m) refl in
+    plain_write r (Mdcfg m) (512 + m) v (register_at-Mdcfg r.shape m f (omega arith) (omega arith)) refl locks (omega arith) (omega arith)
+
 pub plain_mdcfg : (h : Shape) (m v : ℕ) → IsPolicyShape h → m < h.domains → v < 2 ^ 16 → IsPlain h (pair (512 + m) v)
 plain_mdcfg h m v good p small = record {
-  alone = λ r c.
-      let f : r.shape.mdcfg ≡ 0 = ap (λ (x : Shape). x.mdcfg) c.shape ∙ good.mdcfg in
-      let d : r.shape.domains ≡ h.domains = ap (λ (x : Shape). x.domains) c.shape in
-      let few = good.valid.domains in
-      let locks : locks_of r (Mdcfg m) ≡ 0 = rw (c.mdcfglck, nothing_below m) refl in
-      plain_write r (Mdcfg m) (512 + m) v (register_at-Mdcfg r.shape m f (omega arith) (omega arith)) refl locks (omega arith) (omega arith);
-  high = omega arith;
+  alone = mdcfg_alone h m v good p small;
+  cleared = mdcfg_alone h m 0 good p (omega arith);
+  table = omega arith;
+  inside = let few = good.valid.domains in omega arith;
   even = λ f s l e. absurd (let few = good.valid.domains in omega arith);
 }
 
@@ -146,19 +165,24 @@ enable_ruled d old v e f small =
     let c : v / 2 ^ 1 % 2 ^ d ≡ v / 2 = mod-eq_of_lt small in
     rw (a, b, c) (omega arith)
 
+enable_alone : (h : Shape) (s v : ℕ) → IsPolicyShape h → h.srcmd ≡ 0 → s < h.rrids → v % 2 ≡ 0 → v / 2 < 2 ^ h.domains → (r : Registers) → IsUnlocked h r → guarded_write r (pair (1024 + 8 * s) v) ≡ set_word r (1024 + 8 * s) v
+enable_alone h s v good f p even small r c =
+    let g : r.shape.srcmd ≡ 0 = ap (λ (x : Shape). x.srcmd) c.shape ∙ f in
+    let k : r.shape.rrids ≡ h.rrids = ap (λ (x : Shape). x.rrids) c.shape in
+    let d : h.domains ≡ r.shape.domains = sym (ap (λ (x : Shape). x.domains) c.shape) in
+    let few = good.valid.domains in
+    let many = good.valid.rrids in
+    let top : 2 ^ h.domains ≤ 2 ^ 31 = pow_mono {j = 31} (omega arith) in
+    let bit = c.enables f s (omega arith) in
+    plain_write r (SrcmdEn s) (1024 + 8 * s) v (register_at-SrcmdEn r.shape s g (omega arith) (omega arith)) refl (enable_guards r s c.mdlck bit)
+    (enable_ruled r.shape.domains (word_at r (1024 + 8 * s)) v bit even (subst (λ n. v / 2 < 2 ^ n) d small)) (omega arith)
+
 pub plain_enable : (h : Shape) (s v : ℕ) → IsPolicyShape h → h.srcmd ≡ 0 → s < h.rrids → v % 2 ≡ 0 → v / 2 < 2 ^ h.domains → IsPlain h (pair (1024 + 8 * s) v)
 plain_enable h s v good f p even small = record {
-  alone = λ r c.
-      let g : r.shape.srcmd ≡ 0 = ap (λ (x : Shape). x.srcmd) c.shape ∙ f in
-      let k : r.shape.rrids ≡ h.rrids = ap (λ (x : Shape). x.rrids) c.shape in
-      let d : h.domains ≡ r.shape.domains = sym (ap (λ (x : Shape). x.domains) c.shape) in
-      let few = good.valid.domains in
-      let many = good.valid.rrids in
-      let top : 2 ^ h.domains ≤ 2 ^ 31 = pow_mono {j = 31} (omega arith) in
-      let bit = c.enables f s (omega arith) in
-      plain_write r (SrcmdEn s) (1024 + 8 * s) v (register_at-SrcmdEn r.shape s g (omega arith) (omega arith)) refl (enable_guards r s c.mdlck bit)
-      (enable_ruled r.shape.domains (word_at r (1024 + 8 * s)) v bit even (subst (λ n. v / 2 < 2 ^ n) d small)) (omega arith);
-  high = omega arith;
+  alone = enable_alone h s v good f p even small;
+  cleared = enable_alone h s 0 good f p (omega arith) (pow_pos h.domains);
+  table = omega arith;
+  inside = let many = good.valid.rrids in let some = good.valid.entries in omega arith;
   even = λ f s l e. even;
 }
 
@@ -173,48 +197,68 @@ permission_guards r m e =
     let z : 0 / 2 ^ (m + 1) % 2 ≡ 0 = bit_at-zero (m + 1) in
     rw (e, z) refl
 
+permission_alone : (h : Shape) (m v : ℕ) → IsPolicyShape h → h.srcmd ≡ 2 → m < h.domains → v < 2 ^ (2 * h.rrids) → (r : Registers) → IsUnlocked h r → guarded_write r (pair (1024 + 8 * m) v) ≡ set_word r (1024 + 8 * m) v
+permission_alone h m v good f p small r c =
+    let g : r.shape.srcmd ≡ 2 = ap (λ (x : Shape). x.srcmd) c.shape ∙ f in
+    let k : h.rrids ≡ r.shape.rrids = sym (ap (λ (x : Shape). x.rrids) c.shape) in
+    let d : r.shape.domains ≡ h.domains = ap (λ (x : Shape). x.domains) c.shape in
+    let few = good.valid.domains in
+    let many = good.valid.srcmd_rrids f in
+    let top : 2 ^ (2 * h.rrids) ≤ 2 ^ 32 = pow_mono {j = 32} (omega arith) in
+    plain_write r (SrcmdPerm m) (1024 + 8 * m) v (register_at-SrcmdPerm r.shape m g (omega arith) (omega arith)) refl (permission_guards r m c.mdlck)
+    (permission_ruled (2 * r.shape.rrids) v (subst (λ n. v < 2 ^ (2 * n)) k small)) (omega arith)
+
 pub plain_permission : (h : Shape) (m v : ℕ) → IsPolicyShape h → h.srcmd ≡ 2 → m < h.domains → v < 2 ^ (2 * h.rrids) → IsPlain h (pair (1024 + 8 * m) v)
 plain_permission h m v good f p small = record {
-  alone = λ r c.
-      let g : r.shape.srcmd ≡ 2 = ap (λ (x : Shape). x.srcmd) c.shape ∙ f in
-      let k : h.rrids ≡ r.shape.rrids = sym (ap (λ (x : Shape). x.rrids) c.shape) in
-      let d : r.shape.domains ≡ h.domains = ap (λ (x : Shape). x.domains) c.shape in
-      let few = good.valid.domains in
-      let many = good.valid.srcmd_rrids f in
-      let top : 2 ^ (2 * h.rrids) ≤ 2 ^ 32 = pow_mono {j = 32} (omega arith) in
-      plain_write r (SrcmdPerm m) (1024 + 8 * m) v (register_at-SrcmdPerm r.shape m g (omega arith) (omega arith)) refl (permission_guards r m c.mdlck)
-      (permission_ruled (2 * r.shape.rrids) v (subst (λ n. v < 2 ^ (2 * n)) k small)) (omega arith);
-  high = omega arith;
+  alone = permission_alone h m v good f p small;
+  cleared = permission_alone h m 0 good f p (pow_pos (2 * h.rrids));
+  table = omega arith;
+  inside = let few = good.valid.domains in let some = good.valid.entries in omega arith;
   even = λ e s l q. absurd (omega arith);
 }
 
 entry_locks : (r : Registers) (i w : ℕ) → word_at r 19 ≡ 0 → where_true (ltb i (bits_of 1 16 (word_at r 19))) w ≡ 0
 entry_locks r i w e = rw (e, nothing_below i) refl
 
+addr_alone : (h : Shape) (i v : ℕ) → i < h.entries → v < 2 ^ 32 → (r : Registers) → IsUnlocked h r → guarded_write r (pair (2048 + 4 * i) v) ≡ set_word r (2048 + 4 * i) v
+addr_alone h i v p small r c =
+    let n : r.shape.entries ≡ h.entries = ap (λ (x : Shape). x.entries) c.shape in
+    plain_write r (EntryAddr i) (2048 + 4 * i) v (register_at-EntryAddr r.shape i (omega arith)) refl (entry_locks r i (whole r.shape (EntryAddr i)) c.entrylck) (omega arith) small
+
 pub plain_addr : (h : Shape) (i v : ℕ) → i < h.entries → v < 2 ^ 32 → IsPlain h (pair (2048 + 4 * i) v)
 plain_addr h i v p small = record {
-  alone = λ r c.
-      let n : r.shape.entries ≡ h.entries = ap (λ (x : Shape). x.entries) c.shape in
-      plain_write r (EntryAddr i) (2048 + 4 * i) v (register_at-EntryAddr r.shape i (omega arith)) refl (entry_locks r i (whole r.shape (EntryAddr i)) c.entrylck) (omega arith) small;
-  high = omega arith;
+  alone = addr_alone h i v p small;
+  cleared = addr_alone h i 0 p (omega arith);
+  table = omega arith;
+  inside = omega arith;
   even = λ f s l e. absurd (omega arith);
 }
+
+addrh_alone : (h : Shape) (i v : ℕ) → i < h.entries → v < 2 ^ 6 → (r : Registers) → IsUnlocked h r → guarded_write r (pair (2049 + 4 * i) v) ≡ set_word r (2049 + 4 * i) v
+addrh_alone h i v p small r c =
+    let n : r.shape.entries ≡ h.entries = ap (λ (x : Shape). x.entries) c.shape in
+    plain_write r (EntryAddrh i) (2049 + 4 * i) v (register_at-EntryAddrh r.shape i (omega arith)) refl (entry_locks r i (whole r.shape (EntryAddrh i)) c.entrylck) (omega arith) (omega arith)
 
 pub plain_addrh : (h : Shape) (i v : ℕ) → i < h.entries → v < 2 ^ 6 → IsPlain h (pair (2049 + 4 * i) v)
 plain_addrh h i v p small = record {
-  alone = λ r c.
-      let n : r.shape.entries ≡ h.entries = ap (λ (x : Shape). x.entries) c.shape in
-      plain_write r (EntryAddrh i) (2049 + 4 * i) v (register_at-EntryAddrh r.shape i (omega arith)) refl (entry_locks r i (whole r.shape (EntryAddrh i)) c.entrylck) (omega arith) (omega arith);
-  high = omega arith;
+  alone = addrh_alone h i v p small;
+  cleared = addrh_alone h i 0 p (omega arith);
+  table = omega arith;
+  inside = omega arith;
   even = λ f s l e. absurd (omega arith);
 }
 
+cfg_alone : (h : Shape) (i v : ℕ) → i < h.entries → v < 2 ^ 5 → (r : Registers) → IsUnlocked h r → guarded_write r (pair (2050 + 4 * i) v) ≡ set_word r (2050 + 4 * i) v
+cfg_alone h i v p small r c =
+    let n : r.shape.entries ≡ h.entries = ap (λ (x : Shape). x.entries) c.shape in
+    plain_write r (EntryCfg i) (2050 + 4 * i) v (register_at-EntryCfg r.shape i (omega arith)) refl (entry_locks r i (whole r.shape (EntryCfg i)) c.entrylck) (omega arith) (omega arith)
+
 pub plain_cfg : (h : Shape) (i v : ℕ) → i < h.entries → v < 2 ^ 5 → IsPlain h (pair (2050 + 4 * i) v)
 plain_cfg h i v p small = record {
-  alone = λ r c.
-      let n : r.shape.entries ≡ h.entries = ap (λ (x : Shape). x.entries) c.shape in
-      plain_write r (EntryCfg i) (2050 + 4 * i) v (register_at-EntryCfg r.shape i (omega arith)) refl (entry_locks r i (whole r.shape (EntryCfg i)) c.entrylck) (omega arith) (omega arith);
-  high = omega arith;
+  alone = cfg_alone h i v p small;
+  cleared = cfg_alone h i 0 p (omega arith);
+  table = omega arith;
+  inside = omega arith;
   even = λ f s l e. absurd (omega arith);
 }
 
@@ -231,8 +275,8 @@ pub record Puts (h : Shape) (r end : Registers) (ps : List RegPair) : Type 0 whe
 pub after_plain : (h : Shape) (r : Registers) (ps : List RegPair) → ArePlain h ps → IsCalm h r → Puts h r (after_writes r ps) ps
 after_plain h r [] all c = record { calm = c; words = refl }
 after_plain h r (p ∷ ps) all c =
-    let e = all.0.alone r c in
-    let d = calm_set h r p.index p.value all.0.high all.0.even c in
+    let e = all.0.alone r (unlocked h r c) in
+    let d = calm_set h r p.index p.value (let t = all.0.table in omega arith) all.0.even c in
     let rest = after_plain h (set_word r p.index p.value) ps all.1 d in
     record {
       calm = subst (λ x. IsCalm h (after_writes x ps)) (sym e) rest.calm;

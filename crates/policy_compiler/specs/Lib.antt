@@ -9,3 +9,4 @@ pub mod Images
 pub mod Needs
 pub mod Fitting
 pub mod Laws
+pub mod Commands

@@ -1,0 +1,219 @@
+-- What the list of events of a live update is: the old image's writes, and then the events of lanes, of
+-- which the first alone writes.
+use Rattle.std.proofs.Common.{◌≡◌, ℕ, zero, suc, ◌+◌, ◌<◌, ◌≤◌, ◌++◌, ◌==◌, inl, inr, ◌⊎◌, Bool, true, false, eqb, cond, List, [], ◌∷◌, Option, Some, None, length, map, filter, refl, sym, ap, subst, ◌∙◌, arith, ⊎_elim}
+use Rattle.std.specs.Prelude.{IsSome, IfSome}
+use Rattle.std.specs.List.{AllByRecursion}
+use Rattle.std.proofs.lemmas.Bool.{cases_eq, cases_lt, eq-eqb, ne_eqb, eqb-true}
+use Rattle.std.proofs.lemmas.List.Elements.{filter-append}
+use Rattle.event_words.specs.declared.shape.Shape.{Shape}
+use Rattle.event_words.specs.declared.event.Event.{Event}
+use Rattle.event_words.specs.declared.event.Event.TheVariants.{RegWrite, RegRead, Submit, Judge}
+use Rattle.event_words.specs.declared.reply.Reply.{Reply}
+use Rattle.event_words.specs.declared.record.LoggedEvent.{LoggedEvent}
+use Rattle.event_words.specs.Word.{word_of, event_at as event_of_word}
+use Rattle.event_words.specs.Events.{caller_of}
+use Rattle.event_words.specs.Runs.{bearer, IsEventWord, logged_from, logged_first}
+use Rattle.event_words.specs.Sections.{SectionOf}
+use Rattle.event_words.specs.Records.{section_end, end_from, events_by, is_by}
+use Rattle.event_words.proofs.Runs.{bearer-word_of}
+use Rattle.policy_compiler.specs.declared.image.RegPair.{RegPair}
+use Rattle.policy_compiler.specs.Commands.{write_command}
+use Rattle.unit_core.specs.Units.{UnitState, unit_at_reset}
+use Rattle.unit_core.specs.Fabrics.{state_after_word, reply_to_word}
+use Rattle.unit_core.specs.Histories.{IsBoot, IsOfLane, BootComesFirst, HasRecord, HaveRecords, IsLegalHistory, with_event, events_of_words, logged_in}
+use Rattle.history_laws.specs.Live.{IsQuiet}
+use Rattle.history_laws.proofs.EventWords.{word_event}
+use Rattle.history_laws.proofs.QuietRecords.{IsNoWrite, WritesNothing, WriteNothing, quiet_record}
+use Rattle.history_laws.proofs.Writes.{write_of, writes, writes_append, append_nothing, all_parts, all_both, all_passing, all_each}
+use Rattle.history_laws.proofs.UnitStands.{IsOnZero}
+use Rattle.history_laws.proofs.WriteRecords.{write_by, event_of, IsDrainRead, IsPlanRecord, plan_of, plan_record, writes_record, free}
+
+-- ---- the list's events
+
+same_events : (k : ℕ) (us : List UnitState) (words : List ℕ) → map event_of (logged_from state_after_word reply_to_word k us words) ≡ events_of_words words
+same_events k us [] = refl
+same_events k us (w ∷ ws) = by (event_of_word w) (same_events (suc k) (state_after_word us k w) ws)
+  where
+    by : (o : Option Event) → map event_of (logged_from state_after_word reply_to_word (suc k) (state_after_word us k w) ws) ≡ events_of_words ws
+        → map event_of (logged_first k (reply_to_word us k w) o (logged_from state_after_word reply_to_word (suc k) (state_after_word us k w) ws)) ≡ with_event o (events_of_words ws)
+    by None h = h
+    by (Some e) h = ap (λ es. e ∷ es) h
+
+pub events_logged : (shapes : List Shape) (words : List ℕ) → map event_of (logged_in shapes words) ≡ events_of_words words
+events_logged shapes words = same_events 0 (map unit_at_reset shapes) words
+
+-- ---- callers
+
+abbrev IsBy : ℕ → LoggedEvent → Type 0
+IsBy c x = caller_of x.event ≡ c
+
+abbrev IsByLane : ℕ → LoggedEvent → Type 0
+IsByLane lanes x = (1 ≤ caller_of x.event) × (caller_of x.event ≤ lanes)
+
+callers : (P : ℕ → Type 0) (k : ℕ) (us : List UnitState) (ws : List ℕ) → AllByRecursion IsEventWord ws → AllByRecursion (λ w. P (bearer w)) ws → AllByRecursion (λ x. P (caller_of x.event)) (logged_from state_after_word reply_to_word k us ws)
+callers P k us [] all h = tt
+callers P k us (w ∷ ws) all h =
+    let e = word_event w all.0 in
+    let own : P (caller_of e.event) = subst P (ap bearer e.is ∙ bearer-word_of e.event e.valid) h.0 in
+    subst (λ o. AllByRecursion (λ (x : LoggedEvent). P (caller_of x.event)) (logged_first k (reply_to_word us k w) o (logged_from state_after_word reply_to_word (suc k) (state_after_word us k w) ws))) (sym e.back)
+    (own, callers P (suc k) (state_after_word us k w) ws all.1 h.1)
+
+record Halves (lanes : ℕ) (xs : List LoggedEvent) : Type 0 where
+  pub boot : List LoggedEvent
+  pub others : List LoggedEvent
+  pub is : xs ≡ boot ++ others
+  pub of_boot : AllByRecursion (IsBy 0) boot
+  pub of_lanes : AllByRecursion (IsByLane lanes) others
+
+more_halves : (lanes : ℕ) (x : LoggedEvent) (xs : List LoggedEvent) → IsBy 0 x → Halves lanes xs → Halves lanes (x ∷ xs)
+more_halves lanes x xs own h = record { boot = x ∷ h.boot; others = h.others; is = ap (λ ys. x ∷ ys) h.is; of_boot = (own, h.of_boot); of_lanes = h.of_lanes }
+
+halves : (lanes k : ℕ) (us : List UnitState) (boot others : List ℕ) → AllByRecursion IsEventWord (boot ++ others) → AllByRecursion IsBoot boot → AllByRecursion (IsOfLane lanes) others → Halves lanes (logged_from state_after_word reply_to_word k us (boot ++ others))
+halves lanes k us [] others all p q = record { boot = []; others = logged_from state_after_word reply_to_word k us others; is = refl; of_boot = tt; of_lanes = callers (λ c. (1 ≤ c) × (c ≤ lanes)) k us others all q }
+halves lanes k us (w ∷ ws) others all p q =
+    let e = word_event w all.0 in
+    let own : caller_of e.event ≡ 0 = sym (ap bearer e.is ∙ bearer-word_of e.event e.valid) ∙ p.0 in
+    subst (λ o. Halves lanes (logged_first k (reply_to_word us k w) o (logged_from state_after_word reply_to_word (suc k) (state_after_word us k w) (ws ++ others)))) (sym e.back)
+    (more_halves lanes (record { place = k; event = e.event; reply = reply_to_word us k w }) _ own (halves lanes (suc k) (state_after_word us k w) ws others all.1 p.1 q))
+
+logged_halves : (lanes : ℕ) (shapes : List Shape) (words : List ℕ) → AllByRecursion IsEventWord words → BootComesFirst lanes words → Halves lanes (logged_in shapes words)
+logged_halves lanes shapes words all b =
+    subst (λ ws. Halves lanes (logged_from state_after_word reply_to_word 0 (map unit_at_reset shapes) ws)) (sym b.is)
+    (halves lanes 0 (map unit_at_reset shapes) b.boot b.others (subst (AllByRecursion IsEventWord) b.is all) b.of_boot b.of_lanes)
+
+-- ---- filters
+
+all_of : {X : Type 0} (P Q : X → Type 0) (xs : List X) → ((x : X) → P x → Q x) → AllByRecursion P xs → AllByRecursion Q xs
+all_of P Q [] each h = tt
+all_of P Q (x ∷ xs) each h = (each x h.0, all_of P Q xs each h.1)
+
+all_with : {X : Type 0} (P Q R : X → Type 0) (xs : List X) → ((x : X) → P x → Q x → R x) → AllByRecursion P xs → AllByRecursion Q xs → AllByRecursion R xs
+all_with P Q R [] each g h = tt
+all_with P Q R (x ∷ xs) each g h = (each x g.0 h.0, all_with P Q R xs each g.1 h.1)
+
+all_under : {X : Type 0} {A : Type 0} (P : X → Type 0) (xs : List X) → (A → AllByRecursion P xs) → AllByRecursion (λ x. A → P x) xs
+all_under P [] f = tt
+all_under P (x ∷ xs) f = (λ a. (f a).0, all_under P xs (λ a. (f a).1))
+
+keeps_all : {X : Type 0} (p : X → Bool) (xs : List X) → AllByRecursion (λ x. p x ≡ true) xs → filter p xs ≡ xs
+keeps_all p [] h = refl
+keeps_all p (x ∷ xs) h = ap (λ b. cond b (x ∷ filter p xs) (filter p xs)) h.0 ∙ ap (λ ys. x ∷ ys) (keeps_all p xs h.1)
+
+keeps_none : {X : Type 0} (p : X → Bool) (xs : List X) → AllByRecursion (λ x. p x ≡ false) xs → filter p xs ≡ []
+keeps_none p [] h = refl
+keeps_none p (x ∷ xs) h = ap (λ b. cond b (x ∷ filter p xs) (filter p xs)) h.0 ∙ keeps_none p xs h.1
+
+own_boot : (lanes : ℕ) (xs : List LoggedEvent) (h : Halves lanes xs) → events_by 0 xs ≡ h.boot
+own_boot lanes xs h =
+    ap (events_by 0) h.is
+    ∙ (filter-append (is_by 0) h.boot h.others
+    ∙ (ap (λ ys. filter (is_by 0) h.boot ++ ys) (keeps_none (is_by 0) h.others (all_of (IsByLane lanes) (λ x. is_by 0 x ≡ false) h.others (λ x l. ne_eqb (caller_of x.event) 0 (λ e. let n = l.0 in omega arith)) h.of_lanes))
+    ∙ (append_nothing (filter (is_by 0) h.boot) ∙ keeps_all (is_by 0) h.boot (all_of (IsBy 0) (λ x. is_by 0 x ≡ true) h.boot (λ x e. eq-eqb (caller_of x.event) 0 e) h.of_boot))))
+
+own_others : (lanes : ℕ) (xs : List LoggedEvent) (h : Halves lanes xs) → events_by 1 xs ≡ events_by 1 h.others
+own_others lanes xs h =
+    ap (events_by 1) h.is
+    ∙ (filter-append (is_by 1) h.boot h.others
+    ∙ ap (λ ys. ys ++ filter (is_by 1) h.others) (keeps_none (is_by 1) h.boot (all_of (IsBy 0) (λ x. is_by 1 x ≡ false) h.boot (λ x e. ne_eqb (caller_of x.event) 1 (λ f. absurd (omega arith))) h.of_boot)))
+
+-- ---- the further lanes write nothing
+
+some_of : {A : Type 0} (o : Option A) → IsSome o → (a : A) × (o ≡ Some a)
+some_of None h = absurd (let n : false ≡ true = h in cc)
+some_of (Some a) h = (a, refl)
+
+if_there : {A : Type 0} {P : Type 0} (o : Option A) → IfSome o (λ a. P) → IsSome o → P
+if_there None f h = absurd (let n : false ≡ true = h in cc)
+if_there (Some a) f h = f
+
+abbrev IsQuietSection : SectionOf → Type 0
+IsQuietSection s = AllByRecursion IsQuiet s.commands
+
+lanes_quiet : (xs : List LoggedEvent) (i : ℕ) (ss : List SectionOf) → HaveRecords xs i ss → AllByRecursion IsQuietSection ss → (c : ℕ) → i ≤ c → c < i + length ss → WriteNothing (events_by c xs)
+lanes_quiet xs i [] records q c l u = absurd (omega arith)
+lanes_quiet xs i (s ∷ ss) records q c l u = ⊎_elim
+    (λ (e : i ≡ c). subst (λ n. WriteNothing (events_by n xs)) e (if_there (end_from i s.commands [] (events_by i xs)) (quiet_record i s.commands q.0 [] (events_by i xs)) records.0))
+    (λ (ne : i ≡ c → ⊥). let less : i + 1 ≤ c = ⊎_elim (λ (a : i < c). omega arith) (λ (b : c ≤ i). absurd (ne (omega arith))) (cases_lt i c) in lanes_quiet xs (i + 1) ss records.1 q.1 c less (omega arith))
+    (cases_eq i c)
+
+others_quiet : (lanes : ℕ) (xs : List LoggedEvent) (h : Halves (suc lanes) xs) → ((c : ℕ) → 2 ≤ c → c < 2 + lanes → WriteNothing (events_by c xs)) → AllByRecursion (λ x. is_by 1 x ≡ false → WritesNothing x) h.others
+others_quiet lanes xs h each =
+    let P : ℕ → LoggedEvent → Type 0 = λ c x. is_by c x ≡ true → (2 ≤ c) × (c < 2 + lanes) → WritesNothing x in
+    let all = all_each P xs (λ c. all_passing (λ x. (2 ≤ c) × (c < 2 + lanes) → WritesNothing x) (is_by c) xs (all_under WritesNothing (events_by c xs) (λ (b : (2 ≤ c) × (c < 2 + lanes)). each c b.0 b.1))) in
+    let parts = all_parts (λ x. (c : ℕ) → P c x) h.boot h.others (subst (AllByRecursion (λ x. (c : ℕ) → P c x)) h.is all) in
+    all_with (IsByLane (suc lanes)) (λ x. (c : ℕ) → P c x) (λ x. is_by 1 x ≡ false → WritesNothing x) h.others
+    (λ x l f e. let ne : caller_of x.event ≡ 1 → ⊥ = λ q. let n = sym e ∙ eq-eqb (caller_of x.event) 1 q in let m : false ≡ true = n in cc in
+    let a = l.0 in
+    let b = l.1 in
+    let more : 2 ≤ caller_of x.event = ⊎_elim (λ (p : 1 < caller_of x.event). omega arith) (λ (p : caller_of x.event ≤ 1). absurd (ne (omega arith))) (cases_lt 1 (caller_of x.event)) in
+    f (caller_of x.event) (eq-eqb (caller_of x.event) (caller_of x.event) refl) (more, omega arith)) h.of_lanes parts.1
+
+-- ---- writes are on unit 0
+
+abbrev pub IsLoggedOnZero : LoggedEvent → Type 0
+IsLoggedOnZero x = IsOnZero x.event
+
+quiet_zero : (e : Event) → IsNoWrite e → IsOnZero e
+quiet_zero (RegWrite unit caller index value) h = absurd h
+quiet_zero (RegRead unit caller index) h = tt
+quiet_zero (Submit unit caller a) h = tt
+quiet_zero (Judge unit caller place) h = tt
+
+writes_zero : (c : ℕ) (ws : List RegPair) (xs : List LoggedEvent) → map event_of xs ≡ map (write_by c) ws → AllByRecursion IsLoggedOnZero xs
+writes_zero c ws [] h = tt
+writes_zero c [] (x ∷ xs) h = absurd (let n : x.event ∷ map event_of xs ≡ [] = h in cc)
+writes_zero c (w ∷ ws) (x ∷ xs) h =
+    let e : x.event ≡ write_by c w = cc in
+    let rest : map event_of xs ≡ map (write_by c) ws = cc in
+    (subst IsOnZero (sym e) refl, writes_zero c ws xs rest)
+
+plan_zero : (tables : List RegPair) (xs : List LoggedEvent) → IsPlanRecord tables xs → AllByRecursion IsLoggedOnZero xs
+plan_zero tables xs r =
+    subst (AllByRecursion IsLoggedOnZero) (sym r.is)
+    (subst IsOnZero (sym r.stalls) refl, all_both IsLoggedOnZero r.reads r.rest (all_of IsDrainRead IsLoggedOnZero r.reads (λ x e. subst IsOnZero (sym e) tt) r.events) (ending r.rest r.ends))
+  where
+    ending : {A B : Type 0} (rest : List LoggedEvent) → (A × (rest ≡ [])) ⊎ (B × (map event_of rest ≡ map (write_by 1) (tables ++ free ∷ []))) → AllByRecursion IsLoggedOnZero rest
+    ending rest (inl e) = subst (AllByRecursion IsLoggedOnZero) (sym e.1) tt
+    ending rest (inr e) = writes_zero 1 (tables ++ free ∷ []) rest e.1
+
+-- ---- together
+
+pub record IsLive (old tables : List RegPair) (xs : List LoggedEvent) : Type 0 where
+  pub boot : List LoggedEvent
+  pub others : List LoggedEvent
+  pub is : xs ≡ boot ++ others
+  pub boot_events : map event_of boot ≡ map (write_by 0) old
+  pub own : IsPlanRecord tables (events_by 1 others)
+  pub quiet : AllByRecursion (λ x. is_by 1 x ≡ false → WritesNothing x) others
+  pub on_zero : AllByRecursion IsLoggedOnZero xs
+
+on_zero_by : (xs : List LoggedEvent) → AllByRecursion (λ x. is_by 1 x ≡ false → WritesNothing x) xs → AllByRecursion IsLoggedOnZero (events_by 1 xs) → AllByRecursion IsLoggedOnZero xs
+on_zero_by xs quiet own =
+    all_with (λ x. is_by 1 x ≡ false → WritesNothing x) (λ x. is_by 1 x ≡ true → IsLoggedOnZero x) IsLoggedOnZero xs (λ x f g. by x (is_by 1 x) refl f g) quiet (all_passing IsLoggedOnZero (is_by 1) xs own)
+  where
+    by : (x : LoggedEvent) (b : Bool) → is_by 1 x ≡ b → (is_by 1 x ≡ false → WritesNothing x) → (is_by 1 x ≡ true → IsLoggedOnZero x) → IsLoggedOnZero x
+    by x true e f g = g e
+    by x false e f g = quiet_zero x.event (f e)
+
+pub live_list : (shapes : List Shape) (old tables : List RegPair) (polls : ℕ) (boot plan : SectionOf) (lanes : List SectionOf) (words : List ℕ)
+    → boot.commands ≡ map write_command old → plan.commands ≡ plan_of tables polls → AllByRecursion IsQuietSection lanes
+    → IsLegalHistory shapes boot (plan ∷ lanes) words → IsLive old tables (logged_in shapes words)
+live_list shapes old tables polls boot plan lanes words b p q legal =
+    let xs = logged_in shapes words in
+    let h = logged_halves (suc (length lanes)) shapes words legal.events legal.order in
+    let booted = some_of (end_from 0 boot.commands [] (events_by 0 (logged_in shapes words))) legal.boot_record in
+    let planned = some_of (end_from 1 plan.commands [] (events_by 1 (logged_in shapes words))) legal.lane_records.0 in
+    let first = writes_record 0 old [] (events_by 0 (logged_in shapes words)) booted.0 (subst (λ cs. end_from 0 cs [] (events_by 0 (logged_in shapes words)) ≡ Some booted.0) b booted.1) in
+    let own = plan_record tables polls [] (events_by 1 (logged_in shapes words)) planned.0 (subst (λ cs. end_from 1 cs [] (events_by 1 (logged_in shapes words)) ≡ Some planned.0) p planned.1) in
+    let mine = subst (IsPlanRecord tables) (own_others (suc (length lanes)) (logged_in shapes words) h) own in
+    let events : map event_of h.boot ≡ map (write_by 0) old = ap (map event_of) (sym (own_boot (suc (length lanes)) (logged_in shapes words) h)) ∙ first in
+    let silent = others_quiet (length lanes) (logged_in shapes words) h (lanes_quiet (logged_in shapes words) 2 lanes legal.lane_records.1 q) in
+    record {
+      boot = h.boot;
+      others = h.others;
+      is = h.is;
+      boot_events = events;
+      own = mine;
+      quiet = silent;
+      on_zero = subst (AllByRecursion IsLoggedOnZero) (sym h.is) (all_both IsLoggedOnZero h.boot h.others (writes_zero 0 old h.boot events) (on_zero_by h.others silent (plan_zero tables (events_by 1 h.others) mine)));
+    }

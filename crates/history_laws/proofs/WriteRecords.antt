@@ -1,0 +1,181 @@
+-- The records of sections of writes, and of a plan.
+use Rattle.std.proofs.Common.{◌≡◌, ℕ, zero, suc, ◌++◌, ◌==◌, eqb, ltb, Bool, true, false, not, ◌&&◌, cond, List, [], ◌∷◌, Option, Some, None, map, refl, sym, ap, subst, ◌∙◌, ◌⊎◌, inl, inr}
+use Rattle.std.specs.Prelude.{nat_lt}
+use Rattle.std.specs.List.{AllByRecursion}
+use Rattle.std.proofs.lemmas.Bool.{eqb-true}
+use Rattle.event_words.specs.declared.event.Event.{Event}
+use Rattle.event_words.specs.declared.event.Event.TheVariants as events
+use Rattle.event_words.specs.declared.record.LoggedEvent.{LoggedEvent}
+use Rattle.event_words.specs.declared.record.SectionEnd.{SectionEnd}
+use Rattle.event_words.specs.declared.record.SectionEnd.TheVariants.{Done, Stopped}
+use Rattle.event_words.specs.declared.section.Command.{Command}
+use Rattle.event_words.specs.declared.section.Command.TheVariants.{Write, Until}
+use Rattle.event_words.specs.Events.{same_event}
+use Rattle.event_words.specs.Records.{OpenSlot, Cut, first_as, polls, hits, one_piece, until_piece, nothing_left, after_piece, end_from}
+use Rattle.policy_compiler.specs.declared.image.RegPair.{RegPair}
+use Rattle.policy_compiler.specs.Images.{pair}
+use Rattle.policy_compiler.specs.Commands.{write_command}
+
+-- ---- one event
+
+and_both : (a b : Bool) → (a && b) ≡ true → (a ≡ true) × (b ≡ true)
+and_both true b h = (refl, h)
+and_both false b h = absurd (let n : false ≡ true = h in cc)
+
+pub same_write : (u c i v : ℕ) (e : Event) → same_event (events.RegWrite u c i v) e ≡ true → e ≡ events.RegWrite u c i v
+same_write u c i v (events.RegWrite u' c' i' v') h =
+    let one = and_both (eqb u u') _ h in
+    let two = and_both (eqb c c') _ one.1 in
+    let three = and_both (eqb i i') _ two.1 in
+    let p : u ≡ u' = eqb-true u u' one.0 in
+    let q : c ≡ c' = eqb-true c c' two.0 in
+    let r : i ≡ i' = eqb-true i i' three.0 in
+    let s : v ≡ v' = eqb-true v v' three.1 in
+    cc
+same_write u c i v (events.RegRead u' c' i') h = absurd (let n : false ≡ true = h in cc)
+same_write u c i v (events.Submit u' c' a') h = absurd (let n : false ≡ true = h in cc)
+same_write u c i v (events.Judge u' c' p') h = absurd (let n : false ≡ true = h in cc)
+
+pub same_read : (u c i : ℕ) (e : Event) → same_event (events.RegRead u c i) e ≡ true → e ≡ events.RegRead u c i
+same_read u c i (events.RegRead u' c' i') h =
+    let one = and_both (eqb u u') _ h in
+    let two = and_both (eqb c c') _ one.1 in
+    let p : u ≡ u' = eqb-true u u' one.0 in
+    let q : c ≡ c' = eqb-true c c' two.0 in
+    let r : i ≡ i' = eqb-true i i' two.1 in
+    cc
+same_read u c i (events.RegWrite u' c' i' v') h = absurd (let n : false ≡ true = h in cc)
+same_read u c i (events.Submit u' c' a') h = absurd (let n : false ≡ true = h in cc)
+same_read u c i (events.Judge u' c' p') h = absurd (let n : false ≡ true = h in cc)
+
+none_some : {A : Type 0} {P : Type 0} (a : A) → None ≡ Some a → P
+none_some a h = absurd (let n : None ≡ Some a = h in cc)
+
+-- a write's piece is its one event
+record StartsWith (e : Event) (go : List LoggedEvent → Option SectionEnd) (xs : List LoggedEvent) (end : SectionEnd) : Type 0 where
+  pub first : LoggedEvent
+  pub rest : List LoggedEvent
+  pub is : xs ≡ first ∷ rest
+  pub event : same_event e first.event ≡ true
+  pub goes : go rest ≡ Some end
+
+one_first : (e : Event) (go : List (Option OpenSlot) → List LoggedEvent → Option SectionEnd) (slots : List (Option OpenSlot)) (xs : List LoggedEvent) (end : SectionEnd)
+    → after_piece go (one_piece slots (first_as e xs)) ≡ Some end → StartsWith e (go slots) xs end
+one_first e go slots [] end h = none_some end h
+one_first e go slots (x ∷ xs) end h = by (same_event e x.event) refl h
+  where
+    by : (b : Bool) → same_event e x.event ≡ b → after_piece go (one_piece slots (cond b (Some (x, xs)) None)) ≡ Some end → StartsWith e (go slots) (x ∷ xs) end
+    by true t h = record { first = x; rest = xs; is = refl; event = t; goes = h }
+    by false t h = none_some end h
+
+-- ---- a section of writes
+
+abbrev pub write_by : ℕ → RegPair → Event
+write_by c w = events.RegWrite 0 c w.index w.value
+
+abbrev pub event_of : LoggedEvent → Event
+event_of x = x.event
+
+pub writes_record : (c : ℕ) (ws : List RegPair) (slots : List (Option OpenSlot)) (xs : List LoggedEvent) (end : SectionEnd) → end_from c (map write_command ws) slots xs ≡ Some end → map event_of xs ≡ map (write_by c) ws
+writes_record c [] slots [] end h = refl
+writes_record c [] slots (x ∷ xs) end h = none_some end h
+writes_record c (w ∷ ws) slots xs end h =
+    let s = one_first (write_by c w) (end_from c (map write_command ws)) slots xs end h in
+    let head = same_write 0 c w.index w.value s.first.event s.event in
+    let tail = writes_record c ws slots s.rest end s.goes in
+    ap (map event_of) s.is ∙ (ap (λ e. e ∷ map event_of s.rest) head ∙ ap (λ es. write_by c w ∷ es) tail)
+
+-- ---- the reads of MDSTALL
+
+abbrev pub IsDrainRead : LoggedEvent → Type 0
+IsDrainRead x = x.event ≡ events.RegRead 0 1 12
+
+abbrev pub Misses : LoggedEvent → Type 0
+Misses x = hits 1 0 x.reply ≡ false
+
+-- some of them hits
+abbrev pub HasHit : List LoggedEvent → Type 0
+HasHit [] = ⊥
+HasHit (x ∷ xs) = (hits 1 0 x.reply ≡ true) ⊎ HasHit xs
+
+record IsPolled (go : List LoggedEvent → Option SectionEnd) (xs : List LoggedEvent) (end : SectionEnd) : Type 0 where
+  pub reads : List LoggedEvent
+  pub rest : List LoggedEvent
+  pub is : xs ≡ reads ++ rest
+  pub events : AllByRecursion IsDrainRead reads
+  pub ends : (AllByRecursion Misses reads × (rest ≡ [])) ⊎ (HasHit reads × (go rest ≡ Some end))
+
+polled : (n : ℕ) (go : List (Option OpenSlot) → List LoggedEvent → Option SectionEnd) (slots : List (Option OpenSlot)) (xs : List LoggedEvent) (end : SectionEnd)
+    → after_piece go (until_piece slots (polls n (events.RegRead 0 1 12) 1 0 xs)) ≡ Some end → IsPolled (go slots) xs end
+polled zero go slots xs end h = none_some end h
+polled (suc n) go slots [] end h = none_some end h
+polled (suc n) go slots (x ∷ xs) end h = by (same_event (events.RegRead 0 1 12) x.event) (hits 1 0 x.reply) (ltb 0 n) (λ g. polled n go slots xs end g) refl refl h
+  where
+    after_last : (hit : Bool) → hits 1 0 x.reply ≡ hit → x.event ≡ events.RegRead 0 1 12 → after_piece go (until_piece slots (Some (hit, xs))) ≡ Some end → IsPolled (go slots) (x ∷ xs) end
+    after_last true t e h = record { reads = x ∷ []; rest = xs; is = refl; events = (e, tt); ends = inr (inl t, h) }
+    after_last false t e h = nothing xs refl h
+      where
+        nothing : (ys : List LoggedEvent) → xs ≡ ys → nothing_left Stopped ys ≡ Some end → IsPolled (go slots) (x ∷ xs) end
+        nothing [] q h = record { reads = x ∷ []; rest = []; is = ap (λ zs. x ∷ zs) q; events = (e, tt); ends = inl ((t, tt), refl) }
+        nothing (y ∷ ys) q h = none_some end h
+
+    by : (s hit more : Bool) → (after_piece go (until_piece slots (polls n (events.RegRead 0 1 12) 1 0 xs)) ≡ Some end → IsPolled (go slots) xs end) → same_event (events.RegRead 0 1 12) x.event ≡ s → hits 1 0 x.reply ≡ hit
+        → after_piece go (until_piece slots (cond (not s) None (cond (not hit && more) (polls n (events.RegRead 0 1 12) 1 0 xs) (Some (hit, xs))))) ≡ Some end → IsPolled (go slots) (x ∷ xs) end
+    by false hit more again p q h = none_some end h
+    by true true more again p q h = after_last true q (same_read 0 1 12 x.event p) h
+    by true false false again p q h = after_last false q (same_read 0 1 12 x.event p) h
+    by true false true again p q h =
+        let e = same_read 0 1 12 x.event p in
+        let r = again h in
+        record {
+          reads = x ∷ r.reads;
+          rest = r.rest;
+          is = ap (λ zs. x ∷ zs) r.is;
+          events = (e, r.events);
+          ends = longer r.reads r.rest r.ends;
+        }
+      where
+        longer : (reads rest : List LoggedEvent) → (AllByRecursion Misses reads × (rest ≡ [])) ⊎ (HasHit reads × (go slots rest ≡ Some end)) → (AllByRecursion Misses (x ∷ reads) × (rest ≡ [])) ⊎ (HasHit (x ∷ reads) × (go slots rest ≡ Some end))
+        longer reads rest (inl m) = inl ((q, m.0), m.1)
+        longer reads rest (inr m) = inr (inr m.0, m.1)
+
+-- ---- a plan
+
+abbrev pub stall : RegPair
+stall = pair 12 1
+
+abbrev pub free : RegPair
+free = pair 12 0
+
+-- all requesters stall, the drain is polled for, the tables are written, and the stall ends
+abbrev pub plan_of : List RegPair → ℕ → List Command
+plan_of tables polls = Write 0 12 1 ∷ Until 0 12 1 0 polls ∷ map write_command (tables ++ free ∷ [])
+
+-- The record of a plan: the stall, the reads, and where one of them hits the other writes.
+pub record IsPlanRecord (tables : List RegPair) (xs : List LoggedEvent) : Type 0 where
+  pub first : LoggedEvent
+  pub reads : List LoggedEvent
+  pub rest : List LoggedEvent
+  pub is : xs ≡ first ∷ (reads ++ rest)
+  pub stalls : first.event ≡ write_by 1 stall
+  pub events : AllByRecursion IsDrainRead reads
+  pub ends : (AllByRecursion Misses reads × (rest ≡ [])) ⊎ (HasHit reads × (map event_of rest ≡ map (write_by 1) (tables ++ free ∷ [])))
+
+pub plan_record : (tables : List RegPair) (n : ℕ) (slots : List (Option OpenSlot)) (xs : List LoggedEvent) (end : SectionEnd) → end_from 1 (plan_of tables n) slots xs ≡ Some end → IsPlanRecord tables xs
+plan_record tables n slots xs end h =
+    let s = one_first (write_by 1 stall) (end_from 1 (Until 0 12 1 0 n ∷ map write_command (tables ++ free ∷ []))) slots xs end h in
+    let p = polled n (end_from 1 (map write_command (tables ++ free ∷ []))) slots s.rest end s.goes in
+    record {
+      first = s.first;
+      reads = p.reads;
+      rest = p.rest;
+      is = s.is ∙ ap (λ ys. s.first ∷ ys) p.is;
+      stalls = same_write 0 1 12 1 s.first.event s.event;
+      events = p.events;
+      ends = ending p.reads p.rest p.ends;
+    }
+  where
+    ending : (reads rest : List LoggedEvent) → (AllByRecursion Misses reads × (rest ≡ [])) ⊎ (HasHit reads × (end_from 1 (map write_command (tables ++ free ∷ [])) slots rest ≡ Some end))
+        → (AllByRecursion Misses reads × (rest ≡ [])) ⊎ (HasHit reads × (map event_of rest ≡ map (write_by 1) (tables ++ free ∷ [])))
+    ending reads rest (inl m) = inl m
+    ending reads rest (inr m) = inr (m.0, writes_record 1 (tables ++ free ∷ []) slots rest end m.1)
