@@ -26,3 +26,4 @@ pub mod WriteRecords
 pub mod Writes
 pub mod UnitStands
 pub mod LiveLists
+pub mod SameTables

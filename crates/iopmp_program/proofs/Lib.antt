@@ -4,3 +4,5 @@ pub mod Endings
 pub mod ImageEndings
 pub mod Plays
 pub mod PlainSections
+pub mod Draws
+pub mod GeneratedExamples

@@ -1,6 +1,7 @@
 pub mod Cuts
 pub mod Replays
 pub mod StatusCodes
+pub mod ScriptNumbers
 pub mod Commands
 pub mod FaultLines
 pub mod Runs
@@ -10,3 +11,5 @@ pub mod PolicyLines
 pub mod Compiles
 pub mod ImageTexts
 pub mod Plays
+pub mod Generated
+pub mod Gens

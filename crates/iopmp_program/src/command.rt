@@ -1,7 +1,9 @@
 // The commands of the program.
 ghost use Rattle.std.specs.Prelude.{◌≡◌, map};
 ghost use Rattle.std.specs.String.{string_bytes};
-ghost use Rattle.iopmp_program.specs.Commands.{command_of};
+ghost use Rattle.iopmp_program.specs.Commands.{numbered, command_of};
+
+use crate::script_number::script_number;
 
 /// What the program is asked to do.
 #[derive(Clone, Copy, Debug, PartialEq, Eq)]
@@ -10,6 +12,18 @@ pub enum Command {
     Run,
     /// Compiles a policy and prints the script of its image.
     Compile,
+    /// Prints the generated script of a number.
+    Gen(u32),
+}
+
+/// The command that takes the number of a generated script.
+fn numbered(word: &str, number: &str) -> Option<Command>
+    ensures { result ≡ numbered word.now number.now }
+{
+    if word == "gen" {
+        return script_number(number).map(|n| Command::Gen(n));
+    }
+    None
 }
 
 /// The command that the words after the program's name are, if they are one.
@@ -19,6 +33,7 @@ pub fn command_in(words: &[String]) -> Option<Command>
     match words {
         [word] if word.as_str() == "run" => Some(Command::Run),
         [word] if word.as_str() == "compile" => Some(Command::Compile),
+        [word, number] => numbered(word.as_str(), number.as_str()),
         _ => None,
     }
 }

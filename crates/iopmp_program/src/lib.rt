@@ -10,6 +10,10 @@ mod compiling;
 mod compiling_tests;
 mod copies;
 mod fault_line;
+mod generating;
+#[cfg(test)]
+mod generating_tests;
+mod generator;
 #[cfg(test)]
 mod lane_tests;
 #[cfg(test)]
@@ -20,6 +24,7 @@ mod program;
 mod record;
 mod replay;
 mod reports;
+mod script_number;
 mod status;
 #[cfg(test)]
 mod test_rows;

@@ -1,5 +1,5 @@
 // All that the program does, over any source and sink.
-ghost use Rattle.std.specs.Prelude.{◌≡◌, ◌≤◌, map, None, Some, IfOk};
+ghost use Rattle.std.specs.Prelude.{◌≡◌, ◌≤◌, ℕ, map, None, Some, IfOk};
 ghost use Rattle.std.specs.String.{string_bytes};
 ghost use Rattle.edge_io.specs.Faults.{Rose};
 ghost use Rattle.script_reader.specs.Scripts.{IsWellFormedScript, need_of};
@@ -11,12 +11,14 @@ ghost use Rattle.iopmp_program.specs.FaultLines.{usage_line};
 ghost use Rattle.iopmp_program.specs.Runs.{IsRun};
 ghost use Rattle.iopmp_program.specs.Endings.{streams, EndsUsage, EndsRun, CompletesRun};
 ghost use Rattle.iopmp_program.specs.Compiles.{EndsCompile, CompletesCompile};
+ghost use Rattle.iopmp_program.specs.Gens.{EndsGen, CompletesUnread};
 ghost use Rattle.iopmp_program.specs.Prints.{sink_change, Refuses, RefusesInput, Reports};
 
 use crate::NoMemory;
 use crate::command::{Command, command_in};
 use crate::compiling::compile_command;
 use crate::fault_line::{refusal_line, too_long_line, usage_line};
+use crate::generating::gen_command;
 use crate::playing::play;
 use crate::reports::report;
 use crate::status::{Outcome, Status};
@@ -158,10 +160,17 @@ pub fn top<R: Threads + Sync, S: Source, K: Sink, G: Gate + Sync>(
         EndsCompile (streams (S.left source.old) (S.left source.new) (S.faults source.old) (S.faults source.new) (K.taken sink.old) (K.taken sink.new) (K.faults sink.old) (K.faults sink.new)) result.status result.history }
     ensures compile_completes { command_of (map string_bytes words.now) ≡ Some commands.Compile →
         CompletesCompile (streams (S.left source.old) (S.left source.new) (S.faults source.old) (S.faults source.new) (K.taken sink.old) (K.taken sink.new) (K.faults sink.old) (K.faults sink.new)) result.status }
+
+    ensures generated { (number : ℕ) → command_of (map string_bytes words.now) ≡ Some (commands.Gen number) →
+        EndsGen number (streams (S.left source.old) (S.left source.new) (S.faults source.old) (S.faults source.new) (K.taken sink.old) (K.taken sink.new) (K.faults sink.old) (K.faults sink.new)) result.status result.history }
+    ensures generated_unread { (number : ℕ) → command_of (map string_bytes words.now) ≡ Some (commands.Gen number) → source.new ≡ source.old }
+    ensures generated_completes { (number : ℕ) → command_of (map string_bytes words.now) ≡ Some (commands.Gen number) →
+        CompletesUnread (streams (S.left source.old) (S.left source.new) (S.faults source.old) (S.faults source.new) (K.taken sink.old) (K.taken sink.new) (K.faults sink.old) (K.faults sink.new)) result.status }
 {
     match command_in(words) {
         None => refuse(sink, Status::Usage, usage_line().as_bytes()),
         Some(Command::Run) => run_command(rt, alloc, source, sink, gate),
         Some(Command::Compile) => compile_command(alloc, source, sink),
+        Some(Command::Gen(number)) => gen_command(alloc, number, sink),
     }
 }
