@@ -27,3 +27,4 @@ pub mod Writes
 pub mod UnitStands
 pub mod LiveLists
 pub mod SameTables
+pub mod UnwrittenLaw

@@ -9,3 +9,4 @@ pub mod Lengths
 pub mod OneHistory
 pub mod EqualReports
 pub mod Live
+pub mod Unwritten
