@@ -28,3 +28,5 @@ pub mod UnitStands
 pub mod LiveLists
 pub mod SameTables
 pub mod UnwrittenLaw
+pub mod Pairs
+pub mod Unstalled
