@@ -30,3 +30,4 @@ pub mod SameTables
 pub mod UnwrittenLaw
 pub mod Pairs
 pub mod Unstalled
+pub mod BootWrites
