@@ -55,20 +55,25 @@ boot_filter (w ∷ ws) all =
     by e true back h = ap (λ es. e ∷ es) h ∙ ap (λ o. with_event o (events_of_words (filter is_boot ws))) (sym back)
     by e false back h = h
 
-some_of : (o : Option SectionEnd) → IsSome o → (end : SectionEnd) × (o ≡ Some end)
+pub some_of : (o : Option SectionEnd) → IsSome o → (end : SectionEnd) × (o ≡ Some end)
 some_of None h = absurd (let n : false ≡ true = h in cc)
 some_of (Some end) h = (end, refl)
 
--- The events of a boot section of writes are these writes.
+-- The entries of a boot section of writes are these writes.
+pub boot_entries : (shapes : List Shape) (boot : SectionOf) (lanes : List SectionOf) (words : List ℕ) (ps : List RegPair) → boot.commands ≡ map write_command ps → IsLegalHistory shapes boot lanes words
+    → map event_of (events_by 0 (logged_in shapes words)) ≡ map (write_by 0) ps
+boot_entries shapes boot lanes words ps commands legal =
+    let ended = some_of (end_from 0 boot.commands [] (events_by 0 (logged_in shapes words))) legal.boot_record in
+    writes_record 0 ps [] (events_by 0 (logged_in shapes words)) ended.0 (subst (λ cs. end_from 0 cs [] (events_by 0 (logged_in shapes words)) ≡ Some ended.0) commands ended.1)
+
+-- so are its events
 pub boot_events : (shapes : List Shape) (boot : SectionOf) (lanes : List SectionOf) (words : List ℕ) (ps : List RegPair) → boot.commands ≡ map write_command ps → IsLegalHistory shapes boot lanes words
     → events_of_words (filter is_boot words) ≡ map (write_by 0) ps
 boot_events shapes boot lanes words ps commands legal =
-    let ended = some_of (end_from 0 boot.commands [] (events_by 0 (logged_in shapes words))) legal.boot_record in
-    let record_is = writes_record 0 ps [] (events_by 0 (logged_in shapes words)) ended.0 (subst (λ cs. end_from 0 cs [] (events_by 0 (logged_in shapes words)) ≡ Some ended.0) commands ended.1) in
     sym (boot_filter words legal.events)
     ∙ ap (filter is_first) (sym (events_logged shapes words))
     ∙ sym (same_filter (logged_in shapes words))
-    ∙ record_is
+    ∙ boot_entries shapes boot lanes words ps commands legal
 
 -- ---- what they leave
 

@@ -60,3 +60,8 @@ pairs_filtered P p (x ∷ xs) each =
     by_bool (p x)
     (λ t. subst (λ b. AllPairs P (cond b (x ∷ filter p xs) (filter p xs))) (sym t) (pairs_before P x (filter p xs) (follows P p x xs (λ k y f. each 0 (suc k) x y (omega arith, refl, f.0, t, f.1, between p x xs k y f))) rest))
     (λ t. subst (λ b. AllPairs P (cond b (x ∷ filter p xs) (filter p xs))) (sym t) rest)
+
+pub pairs_of : {X : Type 0} (P Q : X → X → Type 0) (xs : List X) → ((x y : X) → P x y → Q x y) → AllPairs P xs → AllPairs Q xs
+pairs_of P Q [] each h = tt
+pairs_of P Q (x ∷ []) each h = tt
+pairs_of P Q (x ∷ y ∷ ys) each h = (each x y h.0, pairs_of P Q (y ∷ ys) each h.1)

@@ -32,7 +32,7 @@ use Rattle.history_laws.proofs.TicketReplies.{IsJudged, judged_open}
 use Rattle.history_laws.proofs.WordHistories.{IsEntry, is_entry, has_entry}
 use Rattle.history_laws.proofs.UnwrittenLaw.{AreNoWritesFrom, boot_before, units_booted, no_writes, law_unwritten}
 
-from_each : {X : Type 0} (P : X → Type 0) (xs : List X) → ((k : ℕ) (x : X) → slice_get xs k ≡ Some x → P x) → AllByRecursion P xs
+pub from_each : {X : Type 0} (P : X → Type 0) (xs : List X) → ((k : ℕ) (x : X) → slice_get xs k ≡ Some x → P x) → AllByRecursion P xs
 from_each P [] each = tt
 from_each P (x ∷ xs) each = (each 0 x refl, from_each P xs (λ k y at. each (suc k) y at))
 
@@ -94,14 +94,15 @@ module _ (shapes : List Shape) (boot : SectionOf) (lanes : List SectionOf) (word
   abbrev n : ℕ
   n = length g.legal.order.boot
 
-  booted : (u : ℕ) (shape : Shape) → slice_get shapes u ≡ Some shape → slice_get (units_after_boot shapes words) u ≡ Some (own_state h.events u shape n)
-  booted u shape q = ap (λ us. slice_get us u) (sym (units_booted shapes (length lanes) words g.legal.events g.legal.order)) ∙ own_at h u n shape q
+  -- The unit before the first event of a lane.
+  pub state_booted : (u : ℕ) (shape : Shape) → slice_get shapes u ≡ Some shape → slice_get (units_after_boot shapes words) u ≡ Some (own_state h.events u shape n)
+  state_booted u shape q = ap (λ us. slice_get us u) (sym (units_booted shapes (length lanes) words g.legal.events g.legal.order)) ∙ own_at h u n shape q
 
   unstalled_at : (u : ℕ) (shape : Shape) → slice_get shapes u ≡ Some shape → (k : ℕ) → n ≤ k → IsUnstalled (own_state h.events u shape k)
   unstalled_at u shape q k l =
       let z : n + (k - n) ≡ k = omega arith in
       subst (λ j. IsUnstalled (own_state h.events u shape j)) z
-      (unstalled_later h.events u shape n (k - n) (no_writes shapes boot lanes words g.legal g.quiet) (g.unstalled u (own_state h.events u shape n) (booted u shape q)))
+      (unstalled_later h.events u shape n (k - n) (no_writes shapes boot lanes words g.legal g.quiet) (g.unstalled u (own_state h.events u shape n) (state_booted u shape q)))
 
   after_boot : (k : ℕ) (e : Event) → event_at h k ≡ Some e → 1 ≤ caller_of e → n ≤ k
   after_boot k e q l = boot_before shapes (length lanes) words g.legal.events g.legal.order k e q l
@@ -142,7 +143,7 @@ module _ (shapes : List Shape) (boot : SectionOf) (lanes : List SectionOf) (word
       (λ (verdict : (v : Verdict) × (y.reply ≡ replies.Verdict v)).
       let law = law_unwritten shapes boot lanes words g.legal g.quiet u c i k verdict.0 some judged (second.reply ∙ ap (λ r. Some r) verdict.1) in
       let access = same_access u c a law.access i submitted law.submission.event in
-      let state : Some law.state ≡ Some (own_state h.events u shape n) = sym law.booted ∙ booted u shape q in
+      let state : Some law.state ≡ Some (own_state h.events u shape n) = sym law.booted ∙ state_booted u shape q in
       let same : law.state ≡ own_state h.events u shape n = cc in
       verdict.1 ∙ ap (λ v. replies.Verdict v) (law.verdict_is ∙ ap (λ s. decided s law.access) same ∙ ap (decided (own_state h.events u shape n)) access))
       replied

@@ -164,6 +164,13 @@ lane_after_boot shapes lanes words all b k e q l =
     sym (get_append b.boot b.others (k - length b.boot)) ∙ ap (slice_get (b.boot ++ b.others)) (sym z) ∙ ap (λ ws. slice_get ws k) (sym b.is) ∙ h.at in
     subst (λ n. (1 ≤ n) × (n ≤ lanes)) h.caller (all_get (IsOfLane lanes) b.others (k - length b.boot) h.word b.of_lanes at)
 
+-- Each event is of the boot section's caller, or of a lane's.
+pub caller_within : (shapes : List Shape) (lanes : ℕ) (words : List ℕ) → AllByRecursion IsEventWord words → BootComesFirst lanes words → (k : ℕ) (e : Event) → event_at (history_of shapes words) k ≡ Some e → caller_of e < lanes + 1
+caller_within shapes lanes words all b k e q = ⊎_elim
+    (λ (boot : caller_of e < 1). omega arith)
+    (λ (some : 1 ≤ caller_of e). let c = lane_after_boot shapes lanes words all b k e q (boot_before shapes lanes words all b k e q some) in let u = c.1 in omega arith)
+    (cases_lt (caller_of e) 1)
+
 -- ---- lanes that write nothing
 
 quiet_command : (c : Command) → sections.IsNoWrite c → IsQuiet c

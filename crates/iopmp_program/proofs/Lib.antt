@@ -6,3 +6,8 @@ pub mod Plays
 pub mod PlainSections
 pub mod Draws
 pub mod GeneratedExamples
+pub mod DeniedLines
+pub mod GeneratedSound
+pub mod LaneVerdicts
+pub mod CallerSums
+pub mod Soaked

@@ -3,14 +3,15 @@ use Rattle.std.specs.Prelude.{ℕ, List, [], ◌∷◌, Option, Some, None, if�
 use Rattle.std.specs.Str.{bytes_eq}
 use Rattle.std.specs.Option.{option_map}
 use Rattle.iopmp_program.specs.declared.command.Command.{Command}
-use Rattle.iopmp_program.specs.declared.command.Command.TheVariants.{Run, Compile, Gen}
+use Rattle.iopmp_program.specs.declared.command.Command.TheVariants.{Run, Compile, Gen, Soak}
 use Rattle.iopmp_program.specs.ScriptNumbers.{script_number}
 
 -- a command with the number of a generated script
 abbrev pub numbered : List ℕ → List ℕ → Option Command
 numbered word number =
     if bytes_eq word (codes "gen") then option_map (λ n. Gen n) (script_number number)
-    else None
+    else (if bytes_eq word (codes "soak") then option_map (λ n. Soak n) (script_number number)
+    else None)
 
 -- the command that the words after the program's name are
 abbrev pub command_of : List (List ℕ) → Option Command

@@ -13,3 +13,5 @@ pub mod ImageTexts
 pub mod Plays
 pub mod Generated
 pub mod Gens
+pub mod Summaries
+pub mod Soaks

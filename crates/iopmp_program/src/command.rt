@@ -14,14 +14,19 @@ pub enum Command {
     Compile,
     /// Prints the generated script of a number.
     Gen(u32),
+    /// Runs the generated script of a number and prints a summary of its history.
+    Soak(u32),
 }
 
-/// The command that takes the number of a generated script.
+/// The commands that take the number of a generated script.
 fn numbered(word: &str, number: &str) -> Option<Command>
     ensures { result ≡ numbered word.now number.now }
 {
     if word == "gen" {
         return script_number(number).map(|n| Command::Gen(n));
+    }
+    if word == "soak" {
+        return script_number(number).map(|n| Command::Soak(n));
     }
     None
 }

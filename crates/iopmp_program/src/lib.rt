@@ -25,7 +25,9 @@ mod record;
 mod replay;
 mod reports;
 mod script_number;
+mod soaking;
 mod status;
+mod summary;
 #[cfg(test)]
 mod test_rows;
 #[cfg(test)]

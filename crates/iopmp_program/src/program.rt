@@ -12,6 +12,7 @@ ghost use Rattle.iopmp_program.specs.Runs.{IsRun};
 ghost use Rattle.iopmp_program.specs.Endings.{streams, EndsUsage, EndsRun, CompletesRun};
 ghost use Rattle.iopmp_program.specs.Compiles.{EndsCompile, CompletesCompile};
 ghost use Rattle.iopmp_program.specs.Gens.{EndsGen, CompletesUnread};
+ghost use Rattle.iopmp_program.specs.Soaks.{EndsSoak};
 ghost use Rattle.iopmp_program.specs.Prints.{sink_change, Refuses, RefusesInput, Reports};
 
 use crate::NoMemory;
@@ -21,6 +22,7 @@ use crate::fault_line::{refusal_line, too_long_line, usage_line};
 use crate::generating::gen_command;
 use crate::playing::play;
 use crate::reports::report;
+use crate::soaking::soak_command;
 use crate::status::{Outcome, Status};
 use checker_workers::Gate;
 use edge_io::{ReadError, Sink, Source, read_all, write_all};
@@ -166,11 +168,18 @@ pub fn top<R: Threads + Sync, S: Source, K: Sink, G: Gate + Sync>(
     ensures generated_unread { (number : ℕ) → command_of (map string_bytes words.now) ≡ Some (commands.Gen number) → source.new ≡ source.old }
     ensures generated_completes { (number : ℕ) → command_of (map string_bytes words.now) ≡ Some (commands.Gen number) →
         CompletesUnread (streams (S.left source.old) (S.left source.new) (S.faults source.old) (S.faults source.new) (K.taken sink.old) (K.taken sink.new) (K.faults sink.old) (K.faults sink.new)) result.status }
+
+    ensures soak { (number : ℕ) → command_of (map string_bytes words.now) ≡ Some (commands.Soak number) →
+        EndsSoak number (streams (S.left source.old) (S.left source.new) (S.faults source.old) (S.faults source.new) (K.taken sink.old) (K.taken sink.new) (K.faults sink.old) (K.faults sink.new)) result.status result.history }
+    ensures soak_unread { (number : ℕ) → command_of (map string_bytes words.now) ≡ Some (commands.Soak number) → source.new ≡ source.old }
+    ensures soak_completes { (number : ℕ) → command_of (map string_bytes words.now) ≡ Some (commands.Soak number) →
+        CompletesUnread (streams (S.left source.old) (S.left source.new) (S.faults source.old) (S.faults source.new) (K.taken sink.old) (K.taken sink.new) (K.faults sink.old) (K.faults sink.new)) result.status }
 {
     match command_in(words) {
         None => refuse(sink, Status::Usage, usage_line().as_bytes()),
         Some(Command::Run) => run_command(rt, alloc, source, sink, gate),
         Some(Command::Compile) => compile_command(alloc, source, sink),
         Some(Command::Gen(number)) => gen_command(alloc, number, sink),
+        Some(Command::Soak(number)) => soak_command(rt, alloc, number, sink, gate),
     }
 }
