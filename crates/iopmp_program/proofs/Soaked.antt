@@ -87,23 +87,49 @@ leaves : (offset value : ℕ) → (offset / 4 ≡ 12 → ⊥) → (offset / 4 �
 leaves offset value p q = record { not_mdstall = p; not_rridscp = q }
 
 leave : AllByRecursion LeavesFlags boot_writes
-leave =
+leave = (
+  leaves 0x10 0x1 (λ e. absurd (omega arith)) (λ e. absurd (omega arith)),
+  (
+    leaves 0x800 0x2 (λ e. absurd (omega arith)) (λ e. absurd (omega arith)),
     (
-      leaves 0x10 0x1 (λ e. absurd (omega arith)) (λ e. absurd (omega arith)), (
-      leaves 0x800 0x2 (λ e. absurd (omega arith)) (λ e. absurd (omega arith)), (
-      leaves 0x804 0x4 (λ e. absurd (omega arith)) (λ e. absurd (omega arith)), (
-      leaves 0x1000 0x2 (λ e. absurd (omega arith)) (λ e. absurd (omega arith)), (
-      leaves 0x1020 0x4 (λ e. absurd (omega arith)) (λ e. absurd (omega arith)), (
-      leaves 0x1040 0x6 (λ e. absurd (omega arith)) (λ e. absurd (omega arith)), (
-      leaves 0x2000 0x200001ff (λ e. absurd (omega arith)) (λ e. absurd (omega arith)), (
-      leaves 0x2008 0x19 (λ e. absurd (omega arith)) (λ e. absurd (omega arith)), (
-      leaves 0x2010 0x20000fff (λ e. absurd (omega arith)) (λ e. absurd (omega arith)), (
-      leaves 0x2018 0x1b (λ e. absurd (omega arith)) (λ e. absurd (omega arith)), (
-      leaves 0x2020 0x20001000 (λ e. absurd (omega arith)) (λ e. absurd (omega arith)), (
-      leaves 0x2030 0x20003000 (λ e. absurd (omega arith)) (λ e. absurd (omega arith)), (
-      leaves 0x2038 0xd (λ e. absurd (omega arith)) (λ e. absurd (omega arith)), (
-      leaves 0x8 0x1 (λ e. absurd (omega arith)) (λ e. absurd (omega arith)), tt)))))))))))))
-    )
+      leaves 0x804 0x4 (λ e. absurd (omega arith)) (λ e. absurd (omega arith)),
+      (
+        leaves 0x1000 0x2 (λ e. absurd (omega arith)) (λ e. absurd (omega arith)),
+        (
+          leaves 0x1020 0x4 (λ e. absurd (omega arith)) (λ e. absurd (omega arith)),
+          (
+            leaves 0x1040 0x6 (λ e. absurd (omega arith)) (λ e. absurd (omega arith)),
+            (
+              leaves 0x2000 0x200001ff (λ e. absurd (omega arith)) (λ e. absurd (omega arith)),
+              (
+                leaves 0x2008 0x19 (λ e. absurd (omega arith)) (λ e. absurd (omega arith)),
+                (
+                  leaves 0x2010 0x20000fff (λ e. absurd (omega arith)) (λ e. absurd (omega arith)),
+                  (
+                    leaves 0x2018 0x1b (λ e. absurd (omega arith)) (λ e. absurd (omega arith)),
+                    (
+                      leaves 0x2020 0x20001000 (λ e. absurd (omega arith)) (λ e. absurd (omega arith)),
+                      (
+                        leaves 0x2030 0x20003000 (λ e. absurd (omega arith)) (λ e. absurd (omega arith)),
+                        (
+                          leaves 0x2038 0xd (λ e. absurd (omega arith)) (λ e. absurd (omega arith)),
+                          (
+                            leaves 0x8 0x1 (λ e. absurd (omega arith)) (λ e. absurd (omega arith)),
+                            tt,
+                          ),
+                        ),
+                      ),
+                    ),
+                  ),
+                ),
+              ),
+            ),
+          ),
+        ),
+      ),
+    ),
+  ),
+)
 
 generated_boots : (lanes : List SectionOf) (words : List ℕ) → IsLegalHistory (generated_shape ∷ []) generated_boot lanes words → units_after_boot (generated_shape ∷ []) words ≡ booted ∷ []
 unfolding generated_registers

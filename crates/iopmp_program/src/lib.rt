@@ -26,6 +26,8 @@ mod replay;
 mod reports;
 mod script_number;
 mod soaking;
+#[cfg(test)]
+mod soaking_tests;
 mod status;
 mod summary;
 #[cfg(test)]

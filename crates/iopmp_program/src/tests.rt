@@ -144,7 +144,7 @@ fn each_status_comes(rt: HostRuntime) -> Result<(), Fail> {
 
 /// Each of lanes 1 and 2 waits at its step 1 for the other, for a while.
 #[derive(Drop)]
-struct Meeting {
+pub struct Meeting {
     one: AtomicU64,
     two: AtomicU64,
     missed: AtomicU64,
@@ -178,7 +178,7 @@ impl Gate for Meeting {
 }
 
 impl Meeting {
-    fn new() -> Meeting {
+    pub fn new() -> Meeting {
         Meeting {
             one: AtomicU64::new(0),
             two: AtomicU64::new(0),
@@ -186,7 +186,7 @@ impl Meeting {
         }
     }
 
-    fn took_place(&self) -> bool {
+    pub fn took_place(&self) -> bool {
         let one = self.one.load(Ordering::SeqCst);
         let two = self.two.load(Ordering::SeqCst);
         one == 1 && two == 1 && self.missed.load(Ordering::SeqCst) == 0
