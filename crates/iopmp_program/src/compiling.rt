@@ -86,8 +86,7 @@ fn write_command(pair: &RegPair) -> Command
     }
 }
 
-/// The commands of writes on unit 0.
-pub fn write_commands(alloc: Global, writes: &[RegPair]) -> Result<Vec<Command>, AllocError>
+fn write_commands(alloc: Global, writes: &[RegPair]) -> Result<Vec<Command>, AllocError>
     ensures { IfOk result (λ commands. commands.items ≡ map write_command writes.now) }
 {
     writes.iter().map(|pair| write_command(pair)).collect(alloc)
@@ -136,7 +135,7 @@ fn image_text(alloc: Global, bytes: &[u8]) -> Result<Vec<u8>, NoImage>
 }
 
 /// Writes the whole output.
-pub fn print_text<K: Sink>(sink: &mut K, text: &[u8]) -> Outcome
+fn print_text<K: Sink>(sink: &mut K, text: &[u8]) -> Outcome
     ensures { Refuses (sink_change (K.taken sink.old) (K.taken sink.new) (K.faults sink.old) (K.faults sink.new)) Status.Done text.now result.status result.history }
 {
     match write_all(sink, text) {

@@ -4,11 +4,10 @@ ghost use Rattle.iopmp_program.specs.Gens.{generated_text};
 ghost use Rattle.iopmp_program.specs.Prints.{sink_change, Prints};
 
 use crate::NoMemory;
-use crate::compiling::print_text;
 use crate::generator::generated_script;
 use crate::program::without_history;
 use crate::status::{Outcome, Status};
-use edge_io::Sink;
+use edge_io::{Sink, write_all};
 use script_reader::print_script;
 use std::alloc::Global;
 
@@ -28,8 +27,11 @@ fn generated_text(alloc: Global, number: u32) -> Result<Vec<u8>, NoMemory>
 pub fn gen_command<K: Sink>(alloc: Global, number: u32, sink: &mut K) -> Outcome
     ensures { Prints (sink_change (K.taken sink.old) (K.taken sink.new) (K.faults sink.old) (K.faults sink.new)) (generated_text number) result.status result.history }
 {
-    match generated_text(alloc, number) {
-        Ok(text) => print_text(sink, &text),
-        Err(_) => without_history(Status::NoMemory),
+    let Ok(text) = generated_text(alloc, number) else {
+        return without_history(Status::NoMemory);
+    };
+    match write_all(sink, &text) {
+        Ok(()) => without_history(Status::Done),
+        Err(_) => without_history(Status::WriteFault),
     }
 }

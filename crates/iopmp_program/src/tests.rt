@@ -178,6 +178,7 @@ impl Gate for Meeting {
 }
 
 impl Meeting {
+    /// Neither lane came yet.
     pub fn new() -> Meeting {
         Meeting {
             one: AtomicU64::new(0),
@@ -186,6 +187,7 @@ impl Meeting {
         }
     }
 
+    /// Whether both lanes came, and neither gave up.
     pub fn took_place(&self) -> bool {
         let one = self.one.load(Ordering::SeqCst);
         let two = self.two.load(Ordering::SeqCst);
