@@ -31,3 +31,10 @@ pub mod UnwrittenLaw
 pub mod Pairs
 pub mod Unstalled
 pub mod BootWrites
+pub mod PlanParts
+pub mod LivePlaces
+pub mod LiveLaw
+pub mod TableRewrites
+pub mod LiveUpdate
+pub mod LiveExample
+pub mod LastWrite

@@ -1,30 +1,29 @@
 -- What the list of events of a live update is: the old image's writes, and then the events of lanes, of
 -- which the first alone writes.
-use Rattle.std.proofs.Common.{◌≡◌, ℕ, zero, suc, ◌+◌, ◌<◌, ◌≤◌, ◌++◌, ◌==◌, inl, inr, ◌⊎◌, Bool, true, false, eqb, cond, List, [], ◌∷◌, Option, Some, None, length, map, filter, refl, sym, ap, subst, ◌∙◌, arith, ⊎_elim}
+use Rattle.std.proofs.Common.{◌≡◌, ℕ, suc, ◌+◌, ◌<◌, ◌≤◌, ◌++◌, inl, inr, ◌⊎◌, Bool, true, false, cond, List, [], ◌∷◌, Option, Some, None, length, map, filter, refl, sym, ap, subst, ◌∙◌, arith, ⊎_elim}
 use Rattle.std.specs.Prelude.{IsSome, IfSome}
 use Rattle.std.specs.List.{AllByRecursion}
-use Rattle.std.proofs.lemmas.Bool.{cases_eq, cases_lt, eq-eqb, ne_eqb, eqb-true}
+use Rattle.std.proofs.lemmas.Bool.{cases_eq, cases_lt, eq-eqb, ne_eqb}
 use Rattle.std.proofs.lemmas.List.Elements.{filter-append}
 use Rattle.event_words.specs.declared.shape.Shape.{Shape}
 use Rattle.event_words.specs.declared.event.Event.{Event}
 use Rattle.event_words.specs.declared.event.Event.TheVariants.{RegWrite, RegRead, Submit, Judge}
-use Rattle.event_words.specs.declared.reply.Reply.{Reply}
 use Rattle.event_words.specs.declared.record.LoggedEvent.{LoggedEvent}
-use Rattle.event_words.specs.Word.{word_of, event_at as event_of_word}
+use Rattle.event_words.specs.Word.{event_at as event_of_word}
 use Rattle.event_words.specs.Events.{caller_of}
 use Rattle.event_words.specs.Runs.{bearer, IsEventWord, logged_from, logged_first}
 use Rattle.event_words.specs.Sections.{SectionOf}
-use Rattle.event_words.specs.Records.{section_end, end_from, events_by, is_by}
+use Rattle.event_words.specs.Records.{end_from, events_by, is_by}
 use Rattle.event_words.proofs.Runs.{bearer-word_of}
 use Rattle.policy_compiler.specs.declared.image.RegPair.{RegPair}
 use Rattle.policy_compiler.specs.Commands.{write_command}
 use Rattle.unit_core.specs.Units.{UnitState, unit_at_reset}
 use Rattle.unit_core.specs.Fabrics.{state_after_word, reply_to_word}
-use Rattle.unit_core.specs.Histories.{IsBoot, IsOfLane, BootComesFirst, HasRecord, HaveRecords, IsLegalHistory, with_event, events_of_words, logged_in}
-use Rattle.history_laws.specs.Live.{IsQuiet}
+use Rattle.unit_core.specs.Histories.{IsBoot, IsOfLane, BootComesFirst, HaveRecords, IsLegalHistory, with_event, events_of_words, logged_in}
+use Rattle.history_laws.specs.Live.{IsQuietSection}
 use Rattle.history_laws.proofs.EventWords.{word_event}
 use Rattle.history_laws.proofs.QuietRecords.{IsNoWrite, WritesNothing, WriteNothing, quiet_record}
-use Rattle.history_laws.proofs.Writes.{write_of, writes, writes_append, append_nothing, all_parts, all_both, all_passing, all_each}
+use Rattle.history_laws.proofs.Writes.{append_nothing, all_parts, all_both, all_passing, all_each}
 use Rattle.history_laws.proofs.UnitStands.{IsOnZero}
 use Rattle.history_laws.proofs.WriteRecords.{write_by, event_of, IsDrainRead, IsPlanRecord, plan_of, plan_record, writes_record, free}
 
@@ -126,9 +125,6 @@ if_there : {A : Type 0} {P : Type 0} (o : Option A) → IfSome o (λ a. P) → I
 if_there None f h = absurd (let n : false ≡ true = h in cc)
 if_there (Some a) f h = f
 
-abbrev IsQuietSection : SectionOf → Type 0
-IsQuietSection s = AllByRecursion IsQuiet s.commands
-
 pub lanes_quiet : (xs : List LoggedEvent) (i : ℕ) (ss : List SectionOf) → HaveRecords xs i ss → AllByRecursion IsQuietSection ss → (c : ℕ) → i ≤ c → c < i + length ss → WriteNothing (events_by c xs)
 lanes_quiet xs i [] records q c l u = absurd (omega arith)
 lanes_quiet xs i (s ∷ ss) records q c l u = ⊎_elim
@@ -199,7 +195,6 @@ pub live_list : (shapes : List Shape) (old tables : List RegPair) (polls : ℕ) 
     → boot.commands ≡ map write_command old → plan.commands ≡ plan_of tables polls → AllByRecursion IsQuietSection lanes
     → IsLegalHistory shapes boot (plan ∷ lanes) words → IsLive old tables (logged_in shapes words)
 live_list shapes old tables polls boot plan lanes words b p q legal =
-    let xs = logged_in shapes words in
     let h = logged_halves (suc (length lanes)) shapes words legal.events legal.order in
     let booted = some_of (end_from 0 boot.commands [] (events_by 0 (logged_in shapes words))) legal.boot_record in
     let planned = some_of (end_from 1 plan.commands [] (events_by 1 (logged_in shapes words))) legal.lane_records.0 in

@@ -1,8 +1,7 @@
 -- What the register writes of a history leave in unit 0, whatever stands between them.
-use Rattle.std.proofs.Common.{◌≡◌, ℕ, zero, suc, ◌+◌, ◌/◌, ◌<◌, ◌≤◌, ◌++◌, ◌==◌, ◌&&◌, inl, inr, ◌⊎◌, Bool, true, false, eqb, cond, List, [], ◌∷◌, Option, Some, None, length, map, take, drop, append_assoc, get_or, set, refl, sym, ap, subst, ◌∙◌, arith, ⊎_elim}
+use Rattle.std.proofs.Common.{◌≡◌, ℕ, zero, suc, ◌+◌, ◌<◌, ◌≤◌, ◌++◌, ◌==◌, ◌&&◌, inl, inr, Bool, true, false, List, [], ◌∷◌, Option, Some, None, length, take, drop, append_assoc, set, refl, sym, ap, subst, ◌∙◌, arith, ⊎_elim}
 use Rattle.std.specs.Prelude.{slice_get}
-use Rattle.std.specs.List.{AllByRecursion, range_with_len, list_any}
-use Rattle.std.specs.Int.{bit_at}
+use Rattle.std.specs.List.{AllByRecursion}
 use Rattle.std.proofs.lemmas.Nat.Bits.{bit_at-zero, bit_at-suc}
 use Rattle.std.proofs.lemmas.List.{length-set}
 use Rattle.std.proofs.lemmas.List.FromFn.{get_or-map-range_with_len}
@@ -12,18 +11,17 @@ use Rattle.event_words.specs.declared.access.Access.{Access}
 use Rattle.event_words.specs.declared.reply.Denial.{Denial}
 use Rattle.event_words.specs.declared.event.Event.{Event}
 use Rattle.event_words.specs.declared.event.Event.TheVariants.{RegWrite, RegRead, Submit, Judge}
-use Rattle.event_words.specs.Registers.{Registers, word_at, has_bit}
+use Rattle.event_words.specs.Registers.{Registers, has_bit}
 use Rattle.event_words.specs.Events.{unit_of}
 use Rattle.event_words.specs.Domains.{is_associated}
-use Rattle.event_words.specs.Denials.{recorded, with_error}
+use Rattle.event_words.specs.Denials.{recorded}
 use Rattle.event_words.specs.Stalls.{flag_of, is_selected, differs, flags_after, flags_after_mdstall, flags_after_rridscp}
 use Rattle.policy_compiler.specs.declared.image.RegPair.{RegPair}
 use Rattle.policy_compiler.specs.Policies.{IsPolicyShape}
 use Rattle.policy_compiler.specs.Images.{pair}
 use Rattle.policy_compiler.proofs.Finds.{any_none}
-use Rattle.policy_compiler.proofs.Plain.{IsPlain}
-use Rattle.policy_compiler.proofs.Standing.{value_of, value_same, value_other, Stands, IsTame, IsNext, AreNext, stands_same, stands_step, stands_reset}
-use Rattle.unit_core.specs.Units.{UnitState, unit_at_reset, unit_step, submit_step, judge_step, is_stalled, after_write}
+use Rattle.policy_compiler.proofs.Standing.{value_of, value_same, value_other, Stands, IsNext, AreNext, stands_same, stands_step, stands_reset}
+use Rattle.unit_core.specs.Units.{UnitState, unit_step, is_stalled, after_write}
 use Rattle.history_laws.proofs.Items.{submit_cases, judge_cases}
 use Rattle.history_laws.proofs.Registers.{recorded_cases, recorded_other}
 use Rattle.history_laws.proofs.Runs.{own_state, own_next}

@@ -1,17 +1,16 @@
 -- The records of sections of writes, and of a plan.
-use Rattle.std.proofs.Common.{◌≡◌, ℕ, zero, suc, ◌++◌, ◌==◌, eqb, ltb, Bool, true, false, not, ◌&&◌, cond, List, [], ◌∷◌, Option, Some, None, map, refl, sym, ap, subst, ◌∙◌, ◌⊎◌, inl, inr}
-use Rattle.std.specs.Prelude.{nat_lt}
+use Rattle.std.proofs.Common.{◌≡◌, ℕ, zero, suc, ◌++◌, eqb, ltb, Bool, true, false, not, ◌&&◌, cond, List, [], ◌∷◌, Option, Some, None, map, refl, ap, ◌∙◌, ◌⊎◌, inl, inr}
 use Rattle.std.specs.List.{AllByRecursion}
 use Rattle.std.proofs.lemmas.Bool.{eqb-true}
 use Rattle.event_words.specs.declared.event.Event.{Event}
 use Rattle.event_words.specs.declared.event.Event.TheVariants as events
 use Rattle.event_words.specs.declared.record.LoggedEvent.{LoggedEvent}
 use Rattle.event_words.specs.declared.record.SectionEnd.{SectionEnd}
-use Rattle.event_words.specs.declared.record.SectionEnd.TheVariants.{Done, Stopped}
+use Rattle.event_words.specs.declared.record.SectionEnd.TheVariants.{Stopped}
 use Rattle.event_words.specs.declared.section.Command.{Command}
 use Rattle.event_words.specs.declared.section.Command.TheVariants.{Write, Until}
 use Rattle.event_words.specs.Events.{same_event}
-use Rattle.event_words.specs.Records.{OpenSlot, Cut, first_as, polls, hits, one_piece, until_piece, nothing_left, after_piece, end_from}
+use Rattle.event_words.specs.Records.{OpenSlot, first_as, polls, hits, one_piece, until_piece, nothing_left, after_piece, end_from}
 use Rattle.policy_compiler.specs.declared.image.RegPair.{RegPair}
 use Rattle.policy_compiler.specs.Images.{pair}
 use Rattle.policy_compiler.specs.Commands.{write_command}

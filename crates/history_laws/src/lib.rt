@@ -12,6 +12,7 @@ ghost use Rattle.history_laws.specs.Verdicts.{LawVerdicts};
 ghost use Rattle.history_laws.specs.Laws.{LawKept};
 ghost use Rattle.history_laws.specs.Lengths.{LawLengths};
 ghost use Rattle.history_laws.specs.OneHistory.{LawOneHistory};
+ghost use Rattle.history_laws.specs.Live.{LawLive};
 ghost use Rattle.history_laws.specs.EqualReports.{LawReports};
 ghost use Rattle.history_laws.specs.Unwritten.{LawUnwritten};
 
@@ -57,6 +58,14 @@ pub fn law_lengths()
 /// A script without lanes has one legal history.
 pub fn law_one_history()
     ensures { LawOneHistory }
+{}
+
+/// Of two policies of equal shapes that both compile: in each history of the script whose boot section is
+/// the old image's writes, whose lane 1 is the plan and whose further lanes write no register, a verdict
+/// on a known requester is the old policy's up to the drained reading and the new one's after the release,
+/// and none stands between the two. A verdict on an unknown requester is violation 6 everywhere.
+pub fn law_live()
+    ensures { LawLive }
 {}
 
 /// A report tells the whole history that it is of: two lists of event words, legal or not, that give

@@ -1,5 +1,5 @@
 -- Registers that read as a compiled policy's do decide as the policy does.
-use Rattle.std.proofs.Common.{◌≡◌, ℕ, ◌+◌, ◌*◌, ◌^◌, ◌<◌, ◌≤◌, ◌⊎◌, inl, inr, Bool, true, false, List, [], ◌∷◌, length, arith, refl, sym, ap, ◌∙◌}
+use Rattle.std.proofs.Common.{◌≡◌, ℕ, ◌+◌, ◌*◌, ◌<◌, ◌≤◌, ◌⊎◌, inl, inr, true, false, List, [], ◌∷◌, length, arith, refl, sym, ap, ◌∙◌}
 use Rattle.event_words.specs.declared.shape.Shape.{Shape}
 use Rattle.event_words.specs.declared.access.Access.{Access}
 use Rattle.event_words.specs.Valid.{IsValidAccess}
@@ -66,7 +66,6 @@ guards_of_policy p = entry_count (hardware_of Guards p.domains)
 
 compiled : (r : Registers) (p : PolicyOf) → HasRoom p.shape (hardware p.domains) → IsAlike r p.shape (guards_of_policy p) (hardware p.domains) → IsCompiled r p
 compiled r p room a =
-    let h = p.shape in
     let d : r.shape.domains ≡ p.shape.domains = ap (λ (x : Shape). x.domains) a.shape in
     let n : r.shape.entries ≡ p.shape.entries = ap (λ (x : Shape). x.entries) a.shape in
     let few = room.domains in

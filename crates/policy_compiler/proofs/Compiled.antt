@@ -245,7 +245,7 @@ fit_domains : (p : PolicyOf) → length (hardware p.domains) ≡ need_domains p
 unfolding need_domains
 fit_domains p = length-append (hardware_of Guards p.domains) (hardware_of Grants p.domains) ∙ omega (arith, kind_domains Guards p.domains, kind_domains Grants p.domains)
 
-fit_entries : (p : PolicyOf) → entry_count (hardware p.domains) ≡ need_entries p
+pub fit_entries : (p : PolicyOf) → entry_count (hardware p.domains) ≡ need_entries p
 unfolding need_entries
 fit_entries p = count_append (hardware_of Guards p.domains) (hardware_of Grants p.domains) ∙ omega (arith, kind_entries Guards p.domains, kind_entries Grants p.domains)
 

@@ -1,27 +1,25 @@
 -- Registers whose last written values are those of an image decide as its policy does.
-use Rattle.std.proofs.Common.{◌≡◌, ℕ, ◌+◌, ◌^◌, ◌<◌, ◌≤◌, inl, inr, Bool, true, false, ◌==◌, ltb, List, [], ◌∷◌, ◌++◌, Option, Some, None, cond, arith, refl, sym, ap, ◌∙◌, subst}
-use Rattle.std.proofs.lemmas.Bool.{cond_both}
+use Rattle.std.proofs.Common.{◌≡◌, ℕ, ◌^◌, ◌<◌, ◌≤◌, ◌⊎◌, inl, inr, Bool, true, false, ◌==◌, ltb, List, [], ◌∷◌, ◌++◌, Option, Some, None, cond, arith, refl, sym, ap, ◌∙◌, subst}
+use Rattle.std.specs.List.{AllByRecursion}
 use Rattle.std.proofs.lemmas.Bool.Decides.{nat_tests}
 use Rattle.event_words.specs.declared.shape.Shape.{Shape}
 use Rattle.event_words.specs.declared.access.Access.{Access}
 use Rattle.event_words.specs.Valid.{IsValidAccess}
-use Rattle.event_words.specs.Registers.{Registers, word_at, at_reset}
-use Rattle.event_words.specs.Guards.{is_enabled}
+use Rattle.event_words.specs.Registers.{Registers, word_at}
 use Rattle.event_words.specs.Decisions.{decision}
 use Rattle.policy_compiler.specs.declared.image.CompileError.{CompileError}
-use Rattle.policy_compiler.specs.declared.image.CompileError.TheVariants.{TooManyDomains, TooManyEntries}
 use Rattle.policy_compiler.specs.declared.image.RegPair.{RegPair}
-use Rattle.policy_compiler.specs.Policies.{PolicyOf, IsPolicy, IsPolicyShape}
+use Rattle.policy_compiler.specs.Policies.{PolicyOf, IsPolicy}
 use Rattle.policy_compiler.specs.declared.read.rules.RuleKind.TheVariants.{Guards, Grants}
 use Rattle.policy_compiler.specs.Images.{HardwareOf, pair, hardware, hardware_of, writes_of, image_of}
 use Rattle.policy_compiler.specs.Needs.{need_domains, need_entries, need_refusal}
-use Rattle.policy_compiler.specs.Laws.{after_writes, kind_of}
+use Rattle.policy_compiler.specs.Laws.{kind_of}
 use Rattle.policy_compiler.specs.Decides.{policy_decision}
 use Rattle.policy_compiler.proofs.Fits.{count_append}
 use Rattle.policy_compiler.proofs.Plain.{ArePlain}
-use Rattle.policy_compiler.proofs.Compiled.{HasRoom, room_of, table_writes, last_of, plain_tables, writes_split, after_is}
-use Rattle.policy_compiler.proofs.Alike.{IsAlike, guards_of_policy, decides_alike}
-use Rattle.policy_compiler.proofs.Standing.{value_from, value_of, value_append, value_same, value_other, Stands, IsTame, IsNext, AreNext, stands_written}
+use Rattle.policy_compiler.proofs.Compiled.{HasRoom, room_of, table_writes, plain_tables, writes_split, after_is}
+use Rattle.policy_compiler.proofs.Alike.{guards_of_policy, decides_alike}
+use Rattle.policy_compiler.proofs.Standing.{value_from, value_of, value_same, value_other, Stands, IsRewrite, AreNext, stands_written}
 
 -- ---- a policy that compiles has room
 
@@ -93,6 +91,24 @@ image_next p good h =
     let r = room p good h in
     subst (AreNext p.shape []) (sym (image_writes p)) (writes_next p.shape (guards_of_policy p) (hardware p.domains) r (few_guards p r))
 
+-- each of the tables' number, of a table, or of HWCFG0
+abbrev pub IsImageWrite : Shape → RegPair → Type 0
+IsImageWrite h w = IsRewrite h w ⊎ (w.index ≡ 2)
+
+tables_each : (h : Shape) (ws : List RegPair) → ArePlain h ws → AllByRecursion (IsImageWrite h) (ws ++ pair 2 1 ∷ [])
+tables_each h [] plain = (inr refl, tt)
+tables_each h (w ∷ ws) plain = (inl (inr plain.0), tables_each h ws plain.1)
+
+pub image_each : (p : PolicyOf) → IsPolicy p → need_refusal p ≡ None → AllByRecursion (IsImageWrite p.shape) (image_of p).writes
+image_each p good h =
+    let r = room p good h in
+    subst (AllByRecursion (IsImageWrite p.shape)) (sym (image_writes p ∙ writes_split p.shape (guards_of_policy p) (hardware p.domains)))
+    (inl (inl (refl, few_guards p r)), tables_each p.shape (table_writes p.shape (hardware p.domains)) (plain_tables p.shape (hardware p.domains) r))
+
+pub image_shape : (p : PolicyOf) → (image_of p).shape ≡ p.shape
+unfolding image_of
+image_shape p = refl
+
 -- ---- what decides
 
 -- the last values are the same, but for MDSTALL
@@ -103,9 +119,6 @@ pub decides_standing : (r : Registers) (p : PolicyOf) (ps : List RegPair) → Is
     → kind_of (decision r a) ≡ policy_decision p a
 decides_standing r p ps good h c same a valid =
     let fit = room p good h in
-    let g = guards_of_policy p in
-    let hs = hardware p.domains in
-    let ws = writes_of p.shape (guards_of_policy p) (hardware p.domains) in
     let written = stands_written p.shape (writes_of p.shape (guards_of_policy p) (hardware p.domains)) good.shape (writes_next p.shape (guards_of_policy p) (hardware p.domains) fit (few_guards p fit)) in
     let values : (i : ℕ) → (i ≡ 12 → ⊥) → value_of ps i ≡ value_of (writes_of p.shape (guards_of_policy p) (hardware p.domains)) i = λ i ne. same i ne ∙ ap (λ qs. value_of qs i) (image_writes p) in
     decides_alike r p good fit (record {

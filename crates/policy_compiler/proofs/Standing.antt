@@ -1,6 +1,6 @@
 -- What the writes of images and of updates leave in the registers, whatever came between them: the table words
 -- are the last values that were written, and no lock is set.
-use Rattle.std.proofs.Common.{◌≡◌, ℕ, ◌+◌, ◌-◌, ◌*◌, ◌/◌, ◌%◌, ◌^◌, ◌<◌, ◌≤◌, ◌⊎◌, inl, inr, Bool, true, false, ◌==◌, not, ◌&&◌, eqb, ltb, cond, List, [], ◌∷◌, ◌++◌, length, append_assoc, Option, Some, None, get_or, set, sum_by, bit_and, bit_or, min, max, arith, refl, sym, ap, ◌∙◌, subst, ⊎_elim}
+use Rattle.std.proofs.Common.{◌≡◌, ℕ, ◌+◌, ◌-◌, ◌*◌, ◌/◌, ◌%◌, ◌^◌, ◌<◌, ◌≤◌, ◌⊎◌, inl, inr, true, false, ◌==◌, ltb, cond, List, [], ◌∷◌, ◌++◌, length, append_assoc, Option, Some, None, get_or, set, bit_and, bit_or, min, max, arith, refl, sym, ap, ◌∙◌, subst, ⊎_elim}
 use Rattle.std.specs.Int.{bit_at, bit_not, w32}
 use Rattle.std.proofs.Math.ListN.{length-set}
 use Rattle.std.proofs.lemmas.Nat.Bits.{bit_at_and, bit_at_or, bit_at_not, bit_at-lt}
@@ -10,9 +10,9 @@ use Rattle.std.proofs.lemmas.Bool.Decides.{nat_tests}
 use Rattle.std.proofs.lemmas.Nat.{mod_below, pow_pos, and_le_r}
 use Rattle.event_words.specs.declared.shape.Shape.{Shape}
 use Rattle.event_words.specs.declared.register.Register.{Register}
-use Rattle.event_words.specs.declared.register.Register.TheVariants.{Hwcfg0, Hwcfg2, Mdstall, Mdcfg, SrcmdEn, SrcmdR, SrcmdW, SrcmdPerm, EntryAddr, EntryAddrh, EntryCfg}
-use Rattle.event_words.specs.Registers.{Registers, word_at, bits_of, has_bit, named_at, srcmd_at, entry_at, if_had, has_register, fields_of, ruled_word, merged, set_word, reset_field, reset_of, reset_word, index_count, at_reset}
-use Rattle.event_words.specs.Guards.{guards_of, is_enabled, is_prient_prog}
+use Rattle.event_words.specs.declared.register.Register.TheVariants.{Hwcfg0, Hwcfg2, Mdcfg, SrcmdEn, SrcmdR, SrcmdW, SrcmdPerm, EntryAddr, EntryAddrh, EntryCfg}
+use Rattle.event_words.specs.Registers.{Registers, word_at, bits_of, has_bit, named_at, srcmd_at, entry_at, if_had, has_register, fields_of, ruled_word, merged, set_word, reset_of, reset_word, index_count, at_reset}
+use Rattle.event_words.specs.Guards.{is_enabled, is_prient_prog}
 use Rattle.policy_compiler.specs.declared.image.RegPair.{RegPair}
 use Rattle.policy_compiler.specs.Policies.{IsPolicyShape}
 use Rattle.policy_compiler.specs.Images.{pair}
@@ -129,7 +129,6 @@ prio_low r g t small =
 -- of the number of priority entries
 stands_prio : (h : Shape) (ps : List RegPair) (r : Registers) (v : ℕ) → v < 2 ^ 16 → Stands h ps r → Stands h (ps ++ pair 4 v ∷ []) (set_word r 4 (prio_word r v))
 stands_prio h ps r v small c =
-    let x = prio_word r v in
     let two : word_at (set_word r 4 (prio_word r v)) 2 ≡ word_at r 2 = other r.words 4 2 (prio_word r v) (λ e. absurd (omega arith)) in
     record {
       unlocked = unlocked_set h r 4 (prio_word r v) (inl (omega arith)) (low_even h 4 (prio_word r v) (omega arith)) c.unlocked;
@@ -168,7 +167,6 @@ record EnableBits (r : Registers) : Type 0 where
 
 enable_bits_are : (r : Registers) → is_enabled r ≡ false → is_prient_prog r ≡ true → r.shape.mdcfg ≡ 0 → EnableBits r
 enable_bits_are r e t f =
-    let old = word_at r 2 in
     let k = enable_kept r e t f in
     let zero : word_at r 2 / 2 ^ 0 % 2 ^ 1 ≡ 0 = not_one (word_at r 2 / 2 ^ 0 % 2) e (mod_below (word_at r 2 / 2 ^ 0) 2 (omega arith)) in
     let one : bit_or (bits_of 0 1 (word_at r 2)) (bits_of 0 1 1) ≡ 1 = rw zero refl in
@@ -197,7 +195,11 @@ stands_enable h ps r good z c =
 
 -- ---- the writes of images and updates
 
--- of the number of priority entries, of MDSTALL, or of a table
+-- of the number of priority entries, or of a table
+abbrev pub IsRewrite : Shape → RegPair → Type 0
+IsRewrite h w = ((w.index ≡ 4) × (w.value < 2 ^ 16)) ⊎ IsPlain h w
+
+-- or of MDSTALL
 abbrev pub IsTame : Shape → RegPair → Type 0
 IsTame h w = ((w.index ≡ 4) × (w.value < 2 ^ 16)) ⊎ ((w.index ≡ 12) ⊎ IsPlain h w)
 

@@ -1,5 +1,5 @@
 // The register writes that make a unit decide as a policy does.
-ghost use Rattle.std.specs.Prelude.{◌≡◌, ◌≤◌, IfOk};
+ghost use Rattle.std.specs.Prelude.{◌≡◌, ◌≤◌, IfOk, IsNone};
 ghost use Rattle.policy_compiler.specs.Policies.{IsPolicy};
 ghost use Rattle.policy_compiler.specs.Needs.{need_domains, need_entries, need_refusal, Compiles};
 ghost use Rattle.policy_compiler.specs.Images.{image_of};
@@ -61,6 +61,28 @@ fn need_entries(policy: &Policy) -> u32
         + needs::entries_with(RuleKind::Grants, &policy.domains)
 }
 
+/// Why a policy can't be compiled for its unit, where it needs more than the unit has: too many
+/// domains come before too many entries. The policy must be one that `read_policy` can give.
+#[tactic(auto, unfolding(crate::specs::Needs::need_refusal))]
+pub fn need_refusal(policy: &Policy) -> Option<CompileError>
+    requires { IsPolicy policy.now }
+    ensures refusal { result ≡ need_refusal policy.now }
+    ensures domains { IsNone result → need_domains policy.now ≤ policy.now.shape.domains }
+    ensures entries { IsNone result → need_entries policy.now ≤ policy.now.shape.entries }
+{
+    let need = need_domains(policy);
+    let have = policy.shape.domains as u32;
+    if have < need {
+        return Some(CompileError::TooManyDomains { need, have });
+    }
+    let need = need_entries(policy);
+    let have = policy.shape.entries as u32;
+    if have < need {
+        return Some(CompileError::TooManyEntries { need, have });
+    }
+    None
+}
+
 /// The image of a policy that fits.
 #[tactic(auto, unfolding(crate::specs::Images::image_of), using(crate::proofs::Fits::domains_have_rules, crate::proofs::Fits::fits_in, crate::proofs::Fits::guard_entries))]
 fn fitting_image(alloc: Global, policy: &Policy) -> Result<Image, AllocError>
@@ -93,7 +115,6 @@ fn lawful_image(alloc: Global, policy: &Policy) -> Result<Image, AllocError>
 /// Compiles a policy, which must be one that `read_policy` can give. It needs a hardware domain for
 /// each policy domain that has guards and one for each that has grants, an entry for each rule that
 /// one entry can hold and two for each other rule.
-#[tactic(auto, unfolding(crate::specs::Needs::need_refusal))]
 pub fn compile(alloc: Global, policy: &Policy) -> Result<Image, CompileError>
     requires { IsPolicy policy.now }
     ensures image { Compiles (need_refusal policy.now) result policy.now }
@@ -101,15 +122,8 @@ pub fn compile(alloc: Global, policy: &Policy) -> Result<Image, CompileError>
     // After the image's writes from reset, the unit decides every access as the policy does.
     ensures law { IfOk result (DecidesAs policy.now) }
 {
-    let need = need_domains(policy);
-    let have = policy.shape.domains as u32;
-    if have < need {
-        return Err(CompileError::TooManyDomains { need, have });
-    }
-    let need = need_entries(policy);
-    let have = policy.shape.entries as u32;
-    if have < need {
-        return Err(CompileError::TooManyEntries { need, have });
+    if let Some(error) = need_refusal(policy) {
+        return Err(error);
     }
     match lawful_image(alloc, policy) {
         Ok(image) => Ok(image),

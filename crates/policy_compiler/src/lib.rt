@@ -12,7 +12,7 @@ mod read;
 mod writes;
 
 pub use decide::policy_kind;
-pub use image::{CompileError, Image, RegPair, compile};
+pub use image::{CompileError, Image, RegPair, compile, need_refusal};
 pub use path::{Part, Path, PolicyError};
 pub use policy::{Policy, PolicyDomain, Rule};
 pub use read::read_policy;

@@ -16,5 +16,5 @@ mod text;
 mod unit_line;
 mod words;
 
-pub use print::{NoMemory, print_script};
+pub use print::{NoMemory, print_lane, print_script};
 pub use script::{Script, ScriptError, read_script};

@@ -55,6 +55,7 @@ impl<'a> Model for Names<'a> {
 }
 
 impl<'a> Names<'a> {
+    /// No names, as before a section's first submission.
     pub fn new(alloc: Global) -> Names<'a>
         ensures { length result ≡ 0 }
     {

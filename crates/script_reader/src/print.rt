@@ -1,4 +1,4 @@
-// Prints a script.
+// Prints a script, or a lane by itself.
 ghost use Rattle.std.specs.Prelude.{◌≡◌, ◌++◌, Some, IfOk, OnOk};
 ghost use Rattle.std.specs.String.{string_bytes};
 ghost use Rattle.event_words.specs.Texts.{kind_text};
@@ -160,6 +160,23 @@ fn push_through(
     )
 }
 
+fn push_until(
+    out: &mut String,
+    unit: u8,
+    index: u32,
+    mask: u32,
+    value: u32,
+    max: u32,
+) -> Result<(), AllocError>
+    ensures { OnOk result (string_bytes out.new ≡ string_bytes out.old ++ command_text (Command.Until unit index mask value max)) }
+{
+    let offset = index as u64 * 4;
+    write!(
+        out,
+        "until {unit} 0x{offset:x} 0x{mask:x} 0x{value:x} max {max}\n"
+    )
+}
+
 fn push_command(out: &mut String, command: &Command) -> Result<(), AllocError>
     ensures { OnOk result (string_bytes out.new ≡ string_bytes out.old ++ command_text command.now) }
 {
@@ -197,13 +214,7 @@ fn push_command(out: &mut String, command: &Command) -> Result<(), AllocError>
             mask,
             value,
             max,
-        } => {
-            let offset = index as u64 * 4;
-            write!(
-                out,
-                "until {unit} 0x{offset:x} 0x{mask:x} 0x{value:x} max {max}\n"
-            )
-        }
+        } => push_until(out, unit, index, mask, value, max),
         Command::Through {
             stages,
             access,
@@ -257,6 +268,26 @@ pub fn print_script(alloc: Global, script: &Script) -> Result<Vec<u8>, NoMemory>
     ensures { IfOk result (λ text. text.items ≡ script_text script.now) }
 {
     match script_string(alloc, script) {
+        Ok(text) => Ok(text.into_bytes()),
+        Err(_) => Err(NoMemory),
+    }
+}
+
+fn lane_string(alloc: Global, number: u8, section: &Section) -> Result<String, AllocError>
+    ensures { IfOk result (λ text. string_bytes text ≡ lane_text number section.now) }
+{
+    let mut out = String::new(alloc);
+    push_lane(&mut out, number as u64, section)?;
+    Ok(out)
+}
+
+/// The canonical text of a lane and its commands, as `print_script` writes them: the line `lane`
+/// with the number, then a line for each command. A lane that can't be read, as one whose number is
+/// not 1 to 16, has a text too, which then need not stand for it.
+pub fn print_lane(alloc: Global, number: u8, section: &Section) -> Result<Vec<u8>, NoMemory>
+    ensures { IfOk result (λ text. text.items ≡ lane_text number section.now) }
+{
+    match lane_string(alloc, number, section) {
         Ok(text) => Ok(text.into_bytes()),
         Err(_) => Err(NoMemory),
     }

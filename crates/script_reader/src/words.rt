@@ -21,6 +21,7 @@ impl<'a> Model for Words<'a> {
 }
 
 impl<'a> Words<'a> {
+    /// The words of a line, up to a comment. Fails where memory runs out.
     pub fn of(alloc: Global, line: &'a [u8]) -> Result<Words<'a>, AllocError>
         ensures { IfOk result (λ w. w ≡ words_of line.entry.now) }
     {
@@ -29,12 +30,14 @@ impl<'a> Words<'a> {
         })
     }
 
+    /// The number of words.
     pub fn len(&self) -> usize
         ensures { result ≡ length self.now }
     {
         self.items.len()
     }
 
+    /// Whether the line has no words.
     pub fn is_empty(&self) -> bool
         ensures { result ≡ (length self.now == 0) }
     {
@@ -51,6 +54,7 @@ impl<'a> Words<'a> {
         }
     }
 
+    /// Whether the word at a place from 0 is this text.
     pub fn is_word(&self, i: usize, text: &[u8]) -> bool
         ensures { result ≡ is_word_at self.now i text.now }
     {

@@ -135,6 +135,7 @@ fn are_tables(values: &[Value]) -> bool
     true
 }
 
+/// Whether each element of an array is an integer.
 pub fn are_integers(values: &[Value]) -> bool
     ensures { result ≡ are_integers (items_view values.now) }
 {

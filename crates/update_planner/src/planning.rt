@@ -1,0 +1,65 @@
+// The plan of two policies.
+ghost use Rattle.std.specs.Prelude.{◌≡◌, ◌↔◌, None, IfOk, MatchResult};
+ghost use Rattle.event_words.specs.Sections.{IsMax, IsValidSection};
+ghost use Rattle.policy_compiler.specs.Policies.{IsPolicy};
+ghost use Rattle.policy_compiler.specs.Images.{image_of};
+ghost use Rattle.policy_compiler.specs.Needs.{need_refusal};
+ghost use Rattle.update_planner.specs.Plans.{plan_commands};
+ghost use Rattle.update_planner.specs.Refusals.{plan_refusal};
+ghost use Rattle.update_planner.specs.Gives.{IsPlan, Plans, SaysShapesDiffer};
+
+use crate::refusal::plan_refusal;
+use crate::{Plan, PlanError, commands};
+use event_words::Section;
+use policy_compiler::{Image, Policy, compile};
+use std::alloc::Global;
+
+/// The image of a policy that fits its unit.
+fn image(alloc: Global, policy: &Policy) -> Result<Image, PlanError>
+    requires policy { IsPolicy policy.now }
+    requires fits { need_refusal policy.now ≡ None }
+    ensures { MatchResult result (λ i. i ≡ image_of policy.now) (λ e. e ≡ PlanError.NoMemory) }
+{
+    match compile(alloc, policy) {
+        Ok(image) => Ok(image),
+        Err(_) => Err(PlanError::NoMemory),
+    }
+}
+
+/// The plan of two policies that fit one unit.
+fn fitting_plan(alloc: Global, old: &Policy, new: &Policy, polls: u32) -> Result<Plan, PlanError>
+    requires polls { IsMax polls }
+    requires old { IsPolicy old.now }
+    requires new { IsPolicy new.now }
+    requires same { old.now.shape ≡ new.now.shape }
+    requires old_fits { need_refusal old.now ≡ None }
+    requires new_fits { need_refusal new.now ≡ None }
+    ensures plan { IsPlan result (plan_commands (image_of old.now) (image_of new.now) polls) }
+    ensures valid { IfOk result (λ p. IsValidSection p.section) }
+{
+    let old = image(alloc, old)?;
+    let new = image(alloc, new)?;
+    let commands = commands::commands(alloc, &old, &new, polls)?;
+    Ok(Plan {
+        section: Section { commands, slots: 0 },
+    })
+}
+
+/// The plan that takes unit 0 from the old policy to the new one, with at most `polls` readings, 1
+/// to 4096, of its stall register. Both policies must be ones that `read_policy` can give.
+///
+/// Fails where the units differ, else where the old policy needs more than the unit has, else where
+/// the new one does, else where memory runs out.
+pub fn plan(alloc: Global, old: &Policy, new: &Policy, polls: u32) -> Result<Plan, PlanError>
+    requires polls { IsMax polls }
+    requires old { IsPolicy old.now }
+    requires new { IsPolicy new.now }
+    ensures plan { Plans (plan_refusal old.now new.now) result (plan_commands (image_of old.now) (image_of new.now) polls) }
+    ensures differ { SaysShapesDiffer result ↔ (old.now.shape ≡ new.now.shape → ⊥) }
+    ensures valid { IfOk result (λ p. IsValidSection p.section) }
+{
+    match plan_refusal(old, new) {
+        Some(error) => Err(error),
+        None => fitting_plan(alloc, old, new, polls),
+    }
+}
