@@ -85,16 +85,25 @@ largest() {
   }'
 }
 
-for name in accesses writes settles traffic largest; do
-  $name >"$folder/$name.script"
-  printf '%-9s %8d bytes in: ' "$name" "$(wc -c <"$folder/$name.script")"
-  python3 - "$top/crates/iopmp/out/iopmp" "$folder/$name.script" <<'PYTHON'
+# The command's words after the file with its input.
+timed() {
+  printf '%-9s %8d bytes in: ' "$name" "$(wc -c <"$1")"
+  python3 - "$top/crates/iopmp/out/iopmp" "$@" <<'PYTHON'
 import resource, subprocess, sys
 with open(sys.argv[2], "rb") as script:
-    done = subprocess.run([sys.argv[1], "run"], stdin=script, capture_output=True)
+    done = subprocess.run([sys.argv[1], *sys.argv[3:]], stdin=script, capture_output=True)
 used = resource.getrusage(resource.RUSAGE_CHILDREN)
 first = done.stdout.split(b"\n", 1)[0].decode()
 print(f"status {done.returncode}, {first}, {len(done.stdout)} bytes out, "
       f"{used.ru_utime + used.ru_stime:.2f} s of processor, {used.ru_maxrss // 1024} MiB")
 PYTHON
+}
+
+for name in accesses writes settles traffic largest; do
+  $name >"$folder/$name.script"
+  timed "$folder/$name.script" run
 done
+# The transactions of `traffic`, made and counted by the program itself.
+name=soak
+: >"$folder/nothing"
+timed "$folder/nothing" soak 0

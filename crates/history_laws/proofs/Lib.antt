@@ -18,11 +18,19 @@ pub mod Examples
 pub mod LengthLaw
 pub mod OneRecord
 pub mod OneHistoryLaw
+pub mod Numerals
+pub mod EventTexts
+pub mod EqualReportsLaw
 pub mod QuietRecords
 pub mod WriteRecords
 pub mod Writes
 pub mod UnitStands
 pub mod LiveLists
+pub mod SameTables
+pub mod UnwrittenLaw
+pub mod Pairs
+pub mod Unstalled
+pub mod BootWrites
 pub mod PlanParts
 pub mod LivePlaces
 pub mod LiveLaw
@@ -30,6 +38,3 @@ pub mod TableRewrites
 pub mod LiveUpdate
 pub mod LiveExample
 pub mod LastWrite
-pub mod Numerals
-pub mod EventTexts
-pub mod EqualReportsLaw

@@ -94,11 +94,11 @@ all_under : {X : Type 0} {A : Type 0} (P : X → Type 0) (xs : List X) → (A �
 all_under P [] f = tt
 all_under P (x ∷ xs) f = (λ a. (f a).0, all_under P xs (λ a. (f a).1))
 
-keeps_all : {X : Type 0} (p : X → Bool) (xs : List X) → AllByRecursion (λ x. p x ≡ true) xs → filter p xs ≡ xs
+pub keeps_all : {X : Type 0} (p : X → Bool) (xs : List X) → AllByRecursion (λ x. p x ≡ true) xs → filter p xs ≡ xs
 keeps_all p [] h = refl
 keeps_all p (x ∷ xs) h = ap (λ b. cond b (x ∷ filter p xs) (filter p xs)) h.0 ∙ ap (λ ys. x ∷ ys) (keeps_all p xs h.1)
 
-keeps_none : {X : Type 0} (p : X → Bool) (xs : List X) → AllByRecursion (λ x. p x ≡ false) xs → filter p xs ≡ []
+pub keeps_none : {X : Type 0} (p : X → Bool) (xs : List X) → AllByRecursion (λ x. p x ≡ false) xs → filter p xs ≡ []
 keeps_none p [] h = refl
 keeps_none p (x ∷ xs) h = ap (λ b. cond b (x ∷ filter p xs) (filter p xs)) h.0 ∙ keeps_none p xs h.1
 
@@ -125,7 +125,7 @@ if_there : {A : Type 0} {P : Type 0} (o : Option A) → IfSome o (λ a. P) → I
 if_there None f h = absurd (let n : false ≡ true = h in cc)
 if_there (Some a) f h = f
 
-lanes_quiet : (xs : List LoggedEvent) (i : ℕ) (ss : List SectionOf) → HaveRecords xs i ss → AllByRecursion IsQuietSection ss → (c : ℕ) → i ≤ c → c < i + length ss → WriteNothing (events_by c xs)
+pub lanes_quiet : (xs : List LoggedEvent) (i : ℕ) (ss : List SectionOf) → HaveRecords xs i ss → AllByRecursion IsQuietSection ss → (c : ℕ) → i ≤ c → c < i + length ss → WriteNothing (events_by c xs)
 lanes_quiet xs i [] records q c l u = absurd (omega arith)
 lanes_quiet xs i (s ∷ ss) records q c l u = ⊎_elim
     (λ (e : i ≡ c). subst (λ n. WriteNothing (events_by n xs)) e (if_there (end_from i s.commands [] (events_by i xs)) (quiet_record i s.commands q.0 [] (events_by i xs)) records.0))

@@ -7,5 +7,6 @@ pub mod Busy
 pub mod Laws
 pub mod Lengths
 pub mod OneHistory
-pub mod Live
 pub mod EqualReports
+pub mod Live
+pub mod Unwritten

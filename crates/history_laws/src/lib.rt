@@ -14,6 +14,7 @@ ghost use Rattle.history_laws.specs.Lengths.{LawLengths};
 ghost use Rattle.history_laws.specs.OneHistory.{LawOneHistory};
 ghost use Rattle.history_laws.specs.Live.{LawLive};
 ghost use Rattle.history_laws.specs.EqualReports.{LawReports};
+ghost use Rattle.history_laws.specs.Unwritten.{LawUnwritten};
 
 /// In every state each queued submission has a known, stalled requester, and a queue has at most its
 /// size.
@@ -71,4 +72,11 @@ pub fn law_live()
 /// equal reports under one script are equal.
 pub fn law_reports()
     ensures { LawReports }
+{}
+
+/// Where the lanes of a script write no register, each verdict of a legal history on a lane's judgement is
+/// what the registers after the boot section's events decide on its submission's access, in whatever order
+/// the lanes come.
+pub fn law_unwritten()
+    ensures { LawUnwritten }
 {}

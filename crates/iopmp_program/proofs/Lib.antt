@@ -7,3 +7,10 @@ pub mod Updates
 pub mod LiveScripts
 pub mod RunEndings
 pub mod LiveCompletes
+pub mod Draws
+pub mod GeneratedExamples
+pub mod DeniedLines
+pub mod GeneratedSound
+pub mod LaneVerdicts
+pub mod CallerSums
+pub mod Soaked

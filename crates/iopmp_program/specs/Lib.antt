@@ -1,6 +1,7 @@
 pub mod Cuts
 pub mod Replays
 pub mod StatusCodes
+pub mod ScriptNumbers
 pub mod Commands
 pub mod FaultLines
 pub mod Runs
@@ -17,3 +18,7 @@ pub mod PlanTexts
 pub mod LiveRuns
 pub mod Givings
 pub mod Plays
+pub mod Generated
+pub mod Gens
+pub mod Summaries
+pub mod Soaks

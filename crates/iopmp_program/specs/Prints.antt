@@ -60,3 +60,7 @@ pub record StopsInReport (k : SinkChange) (script : ScriptOf) (status : Status) 
 
 abbrev pub Reports : SinkChange → ScriptOf → Status → Option (List ℕ) → Type 0
 Reports k script status history = WritesReport k script status history ⊎ StopsInReport k script status history ⊎ HasNoMemory k status history
+
+-- the whole text was written, or a prefix of it, or there was no memory
+abbrev pub Prints : SinkChange → List ℕ → Status → Option (List ℕ) → Type 0
+Prints k text status history = Refuses k Done text status history ⊎ HasNoMemory k status history

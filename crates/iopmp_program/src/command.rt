@@ -1,7 +1,9 @@
 // The commands of the program.
 ghost use Rattle.std.specs.Prelude.{◌≡◌, map};
 ghost use Rattle.std.specs.String.{string_bytes};
-ghost use Rattle.iopmp_program.specs.Commands.{command_of};
+ghost use Rattle.iopmp_program.specs.Commands.{numbered, command_of};
+
+use crate::script_number::script_number;
 
 /// What the program is asked to do.
 #[derive(Clone, Copy, Debug, PartialEq, Eq)]
@@ -14,6 +16,23 @@ pub enum Command {
     Plan,
     /// Plays the plan beside lanes and prints the report of its history.
     Live,
+    /// Prints the generated script of a number.
+    Gen(u32),
+    /// Runs the generated script of a number and prints a summary of its history.
+    Soak(u32),
+}
+
+/// The commands that take the number of a generated script.
+fn numbered(word: &str, number: &str) -> Option<Command>
+    ensures { result ≡ numbered word.now number.now }
+{
+    if word == "gen" {
+        return script_number(number).map(|n| Command::Gen(n));
+    }
+    if word == "soak" {
+        return script_number(number).map(|n| Command::Soak(n));
+    }
+    None
 }
 
 /// The command that the words after the program's name are, if they are one.
@@ -25,6 +44,7 @@ pub fn command_in(words: &[String]) -> Option<Command>
         [word] if word.as_str() == "compile" => Some(Command::Compile),
         [word] if word.as_str() == "plan" => Some(Command::Plan),
         [word] if word.as_str() == "live" => Some(Command::Live),
+        [word, number] => numbered(word.as_str(), number.as_str()),
         _ => None,
     }
 }

@@ -10,6 +10,10 @@ mod compiling;
 mod compiling_tests;
 mod copies;
 mod fault_line;
+mod generating;
+#[cfg(test)]
+mod generating_tests;
+mod generator;
 #[cfg(test)]
 mod lane_tests;
 #[cfg(test)]
@@ -27,7 +31,12 @@ mod record;
 mod replay;
 mod reports;
 mod running;
+mod script_number;
+mod soaking;
+#[cfg(test)]
+mod soaking_tests;
 mod status;
+mod summary;
 #[cfg(test)]
 mod test_rows;
 #[cfg(test)]

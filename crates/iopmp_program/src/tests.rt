@@ -147,7 +147,7 @@ fn each_status_comes(rt: HostRuntime) -> Result<(), Fail> {
 
 /// Each of lanes 1 and 2 waits at its step 1 for the other, for a while.
 #[derive(Drop)]
-struct Meeting {
+pub struct Meeting {
     one: AtomicU64,
     two: AtomicU64,
     missed: AtomicU64,
@@ -181,7 +181,8 @@ impl Gate for Meeting {
 }
 
 impl Meeting {
-    fn new() -> Meeting {
+    /// Neither lane came yet.
+    pub fn new() -> Meeting {
         Meeting {
             one: AtomicU64::new(0),
             two: AtomicU64::new(0),
@@ -189,7 +190,8 @@ impl Meeting {
         }
     }
 
-    fn took_place(&self) -> bool {
+    /// Whether both lanes came, and neither gave up.
+    pub fn took_place(&self) -> bool {
         let one = self.one.load(Ordering::SeqCst);
         let two = self.two.load(Ordering::SeqCst);
         one == 1 && two == 1 && self.missed.load(Ordering::SeqCst) == 0
