@@ -19,6 +19,8 @@ mod lane_tests;
 #[cfg(test)]
 mod layer_tests;
 mod live;
+#[cfg(test)]
+mod live_tests;
 mod memory;
 mod planning;
 #[cfg(test)]
