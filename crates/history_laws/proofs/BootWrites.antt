@@ -1,6 +1,6 @@
 -- The unit after a boot section of writes.
-use Rattle.std.proofs.Common.{◌≡◌, ℕ, zero, suc, ◌+◌, ◌==◌, Bool, true, false, List, [], ◌∷◌, Option, Some, None, map, filter, cond, replicate, refl, sym, ap, ◌∙◌, subst, arith, add-one}
-use Rattle.std.specs.Prelude.{IsSome, slice_get}
+use Rattle.std.proofs.Common.{◌≡◌, ℕ, suc, ◌+◌, ◌==◌, Bool, true, false, List, [], ◌∷◌, Option, Some, None, map, filter, cond, replicate, refl, sym, ap, ◌∙◌, subst, add-one}
+use Rattle.std.specs.Prelude.{IsSome}
 use Rattle.std.specs.List.{AllByRecursion}
 use Rattle.std.proofs.lemmas.Bool.{cond-false, ne_eqb}
 use Rattle.event_words.specs.declared.shape.Shape.{Shape}
@@ -20,7 +20,7 @@ use Rattle.policy_compiler.specs.Commands.{write_command}
 use Rattle.policy_compiler.specs.Laws.{after_writes, guarded_write}
 use Rattle.unit_core.specs.Units.{UnitState, unit_at_reset, event_step, decoded_step, state_after}
 use Rattle.unit_core.specs.Fabrics.{state_after_word}
-use Rattle.unit_core.specs.Histories.{IsLegalHistory, with_event, events_of_words, units_after, logged_in}
+use Rattle.unit_core.specs.Histories.{IsLegalHistory, with_event, events_of_words, logged_in}
 use Rattle.history_laws.specs.Unwritten.{is_boot, units_after_boot}
 use Rattle.history_laws.proofs.EventWords.{word_event}
 use Rattle.history_laws.proofs.Writes.{all_filter}

@@ -1,5 +1,5 @@
 -- Neighbours in a filtered list.
-use Rattle.std.proofs.Common.{◌≡◌, ℕ, zero, suc, ◌+◌, ◌<◌, ◌≤◌, Bool, true, false, List, [], ◌∷◌, Option, Some, None, filter, cond, refl, sym, ap, ◌∙◌, subst, arith}
+use Rattle.std.proofs.Common.{◌≡◌, ℕ, zero, suc, ◌<◌, Bool, true, false, List, [], ◌∷◌, Some, filter, cond, refl, sym, subst, arith}
 use Rattle.std.specs.Prelude.{slice_get}
 
 -- each element with the one after it

@@ -1,5 +1,5 @@
 -- Registers that differ in the record of errors alone decide alike.
-use Rattle.std.proofs.Common.{◌≡◌, ℕ, ◌+◌, ◌-◌, ◌*◌, ◌^◌, ◌/◌, ◌<◌, ◌≤◌, ◌⊎◌, inl, inr, Bool, true, false, not, ◌&&◌, ◌||◌, ◌==◌, if◌then◌else◌, List, [], ◌∷◌, Option, Some, None, get_or, find, filter, refl, sym, ap, ◌∙◌, arith}
+use Rattle.std.proofs.Common.{◌≡◌, ℕ, ◌+◌, ◌-◌, ◌*◌, ◌^◌, ◌/◌, ◌<◌, ◌⊎◌, inl, inr, Bool, true, false, not, ◌&&◌, ◌||◌, ◌==◌, if◌then◌else◌, List, [], ◌∷◌, Option, Some, None, get_or, find, filter, refl, ap, ◌∙◌, arith}
 use Rattle.std.specs.Prelude.{nat_lt, nat_le}
 use Rattle.std.specs.List.{list_any, list_all, range_with_len}
 use Rattle.std.specs.Int.{trailing_ones, w64}
@@ -7,15 +7,14 @@ use Rattle.std.proofs.Math.Path.{fun_ext}
 use Rattle.event_words.specs.declared.shape.Shape.{Shape}
 use Rattle.event_words.specs.declared.access.Access.{Access}
 use Rattle.event_words.specs.declared.access.Kind.{Kind}
-use Rattle.event_words.specs.declared.reply.Decision.{Decision}
 use Rattle.event_words.specs.declared.reply.Decision.TheVariants.{Allowed, Denied}
-use Rattle.event_words.specs.declared.register.Register.TheVariants.{Hwcfg0, Hwcfg2, Mdcfg, SrcmdEn, SrcmdR, SrcmdW, SrcmdPerm, EntryAddr, EntryAddrh, EntryCfg}
+use Rattle.event_words.specs.declared.register.Register.TheVariants.{Hwcfg0, Mdcfg, SrcmdEn, SrcmdR, SrcmdW, SrcmdPerm, EntryAddr, EntryAddrh, EntryCfg}
 use Rattle.event_words.specs.Word.{kind_code}
 use Rattle.event_words.specs.Registers.{Registers, word_at, bits_of, has_bit}
 use Rattle.event_words.specs.Guards.{reg, is_enabled}
-use Rattle.event_words.specs.Entries.{word_address, mode_of, bottom_of, is_byte_of_mode, is_byte_of, bytes_of, touches, covers}
-use Rattle.event_words.specs.Domains.{bound_of, is_bounded_by, owner_of, is_known, is_in_table, is_associated, by_kind, domain_grants}
-use Rattle.event_words.specs.Decisions.{owned_by, is_entry_of, entry_grants, prio_count, entries, is_touching, is_covering, first_touching, covering, has_cfg_bit, mutes, illegal, violation, by_covering, by_touching, decision}
+use Rattle.event_words.specs.Entries.{word_address, mode_of, bottom_of, is_byte_of, bytes_of, touches, covers}
+use Rattle.event_words.specs.Domains.{bound_of, owner_of, is_known, is_in_table, is_associated, by_kind, domain_grants}
+use Rattle.event_words.specs.Decisions.{owned_by, is_entry_of, entry_grants, prio_count, entries, is_touching, is_covering, first_touching, covering, mutes, illegal, violation, by_covering, by_touching, decision}
 
 -- the same words but for those of the record
 abbrev pub SameWords : List ℕ → List ℕ → Type 0

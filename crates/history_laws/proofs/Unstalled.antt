@@ -1,6 +1,6 @@
 -- Where no requester is stalled and no lane writes a register, each submission of a lane passes, and a
 -- judgement of it that comes next replies what the registers after the boot section decide.
-use Rattle.std.proofs.Common.{◌≡◌, ℕ, zero, suc, ◌+◌, ◌-◌, ◌<◌, ◌≤◌, ◌⊎◌, inl, inr, not, Bool, true, false, if◌then◌else◌, List, [], ◌∷◌, Option, Some, None, length, find, refl, sym, ap, ◌∙◌, subst, arith, ⊎_elim}
+use Rattle.std.proofs.Common.{◌≡◌, ℕ, zero, suc, ◌+◌, ◌-◌, ◌≤◌, inl, not, Bool, true, false, if◌then◌else◌, List, [], ◌∷◌, Some, length, refl, sym, ap, ◌∙◌, subst, arith, ⊎_elim}
 use Rattle.std.specs.Prelude.{slice_get}
 use Rattle.std.specs.List.{AllByRecursion}
 use Rattle.std.proofs.lemmas.Bool.{eq-eqb, false≢true}
@@ -12,14 +12,14 @@ use Rattle.event_words.specs.declared.reply.Reply.{Reply}
 use Rattle.event_words.specs.declared.reply.Reply.TheVariants as replies
 use Rattle.event_words.specs.declared.reply.Verdict.{Verdict}
 use Rattle.event_words.specs.declared.record.LoggedEvent.{LoggedEvent}
-use Rattle.event_words.specs.Events.{caller_of, unit_of}
+use Rattle.event_words.specs.Events.{caller_of}
 use Rattle.event_words.specs.Sections.{SectionOf, WritesNothing}
 use Rattle.event_words.specs.Records.{events_by, is_by}
 use Rattle.unit_core.specs.declared.Submission.{Submission}
 use Rattle.unit_core.specs.Submissions.{is_item}
 use Rattle.event_words.specs.Stalls.{flag_of}
 use Rattle.unit_core.specs.Units.{UnitState, unit_step, opened, submit_step, judge_step, is_stalled}
-use Rattle.unit_core.specs.Histories.{History, IsLegalHistory, history_of, state_at, event_at, reply_at, logged_in}
+use Rattle.unit_core.specs.Histories.{History, IsLegalHistory, history_of, event_at, reply_at, logged_in}
 use Rattle.history_laws.specs.Tickets.{IsTaken, IsOwnJudgement}
 use Rattle.history_laws.specs.Verdicts.{decided}
 use Rattle.history_laws.specs.Unwritten.{units_after_boot}
@@ -28,8 +28,8 @@ use Rattle.history_laws.proofs.Items.{submit_cases, judge_cases, items_step, all
 use Rattle.history_laws.proofs.QuietRecords.{IsNoWrite}
 use Rattle.history_laws.proofs.Writes.{all_filter}
 use Rattle.history_laws.proofs.Pairs.{AllPairs, AreNeighbours, pairs_filtered}
-use Rattle.history_laws.proofs.TicketReplies.{IsJudged, judged_open}
-use Rattle.history_laws.proofs.WordHistories.{IsEntry, is_entry, has_entry}
+use Rattle.history_laws.proofs.TicketReplies.{judged_open}
+use Rattle.history_laws.proofs.WordHistories.{is_entry, has_entry}
 use Rattle.history_laws.proofs.UnwrittenLaw.{AreNoWritesFrom, boot_before, units_booted, no_writes, law_unwritten}
 
 pub from_each : {X : Type 0} (P : X → Type 0) (xs : List X) → ((k : ℕ) (x : X) → slice_get xs k ≡ Some x → P x) → AllByRecursion P xs

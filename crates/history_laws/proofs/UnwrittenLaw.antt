@@ -1,6 +1,6 @@
 -- Events that write no register leave what decides, so the registers after the boot section decide.
-use Rattle.std.proofs.Common.{◌≡◌, ℕ, zero, suc, ◌+◌, ◌-◌, ◌<◌, ◌≤◌, ◌⊎◌, inl, inr, ◌++◌, ◌==◌, not, ◌&&◌, ◌||◌, get_or, Bool, true, false, List, [], ◌∷◌, Option, Some, None, length, map, filter, take, refl, sym, ap, ◌∙◌, subst, arith, ⊎_elim}
-use Rattle.std.specs.Prelude.{slice_get, unwrap_or, option_and_then}
+use Rattle.std.proofs.Common.{◌≡◌, ℕ, zero, suc, ◌+◌, ◌-◌, ◌<◌, ◌≤◌, inl, ◌++◌, not, ◌&&◌, ◌||◌, get_or, true, false, List, [], ◌∷◌, Some, length, map, filter, take, refl, sym, ap, ◌∙◌, subst, arith, ⊎_elim}
+use Rattle.std.specs.Prelude.{slice_get, unwrap_or}
 use Rattle.std.specs.List.{AllByRecursion}
 use Rattle.std.proofs.lemmas.Bool.{cases_lt, eq-eqb, ne_eqb}
 use Rattle.std.proofs.lemmas.Option.{slice_get_within, slice_get-get_or}
@@ -13,34 +13,29 @@ use Rattle.event_words.specs.declared.event.Event.TheVariants.{RegWrite, RegRead
 use Rattle.event_words.specs.declared.reply.Decision.{Decision}
 use Rattle.event_words.specs.declared.reply.Decision.TheVariants as decisions
 use Rattle.event_words.specs.declared.reply.Denial.{Denial}
-use Rattle.event_words.specs.declared.reply.Verdict.{Verdict}
 use Rattle.event_words.specs.declared.reply.Verdict.TheVariants as verdicts
 use Rattle.event_words.specs.declared.record.LoggedEvent.{LoggedEvent}
-use Rattle.event_words.specs.declared.section.Command.{Command}
-use Rattle.event_words.specs.declared.section.Command.TheVariants as commands
 use Rattle.event_words.specs.declared.register.Register.TheVariants.{ErrCfg}
 use Rattle.event_words.specs.Registers.{Registers, has_bit}
 use Rattle.event_words.specs.Guards.{reg}
 use Rattle.event_words.specs.Decisions.{decision}
-use Rattle.event_words.specs.Denials.{denial, recorded}
-use Rattle.event_words.specs.Events.{caller_of, unit_of}
-use Rattle.event_words.specs.Word.{word_of, event_at as event_of_word}
+use Rattle.event_words.specs.Denials.{recorded}
+use Rattle.event_words.specs.Events.{caller_of}
 use Rattle.event_words.specs.Runs.{bearer, IsEventWord, run}
 use Rattle.event_words.specs.Sections.{SectionOf, WritesNothing}
-use Rattle.event_words.specs.Sections as sections
-use Rattle.event_words.specs.Records.{events_by, is_by}
+use Rattle.event_words.specs.Records.{is_by}
 use Rattle.event_words.proofs.Runs.{bearer-word_of}
-use Rattle.unit_core.specs.Units.{UnitState, unit_at_reset, unit_step, next_rrid}
+use Rattle.unit_core.specs.Units.{UnitState, unit_at_reset, unit_step}
 use Rattle.unit_core.specs.Fabrics.{state_after_word}
-use Rattle.unit_core.specs.Histories.{History, IsBoot, IsOfLane, BootComesFirst, IsLegalHistory, history_of, units_at, units_after, state_at, event_at, reply_at, logged_in}
+use Rattle.unit_core.specs.Histories.{IsBoot, IsOfLane, BootComesFirst, IsLegalHistory, history_of, units_at, units_after, event_at, logged_in}
 use Rattle.history_laws.specs.Verdicts.{verdict_of, decided}
-use Rattle.history_laws.specs.Unwritten.{is_boot, units_after_boot, IsDecidedByBoot, LawUnwritten}
+use Rattle.history_laws.specs.Unwritten.{is_boot, units_after_boot, LawUnwritten}
 use Rattle.history_laws.proofs.Runs.{own_state, own_next, own_at, shape_there}
 use Rattle.history_laws.proofs.Items.{submit_cases, judge_cases}
 use Rattle.history_laws.proofs.Registers.{recorded_cases, recorded_other}
-use Rattle.history_laws.proofs.SameTables.{SameWords, DifferInRecord, same_decision}
+use Rattle.history_laws.proofs.SameTables.{DifferInRecord, same_decision}
 use Rattle.history_laws.proofs.VerdictLaw.{law_verdicts}
-use Rattle.history_laws.proofs.WordHistories.{length_events, events_at_words, word_at_place, event_at_words, units_at_words, reply_at_words, has_entry}
+use Rattle.history_laws.proofs.WordHistories.{length_events, word_at_place, event_at_words, units_at_words, reply_at_words, has_entry}
 use Rattle.history_laws.proofs.QuietRecords.{IsNoWrite}
 use Rattle.history_laws.proofs.QuietRecords as quiet
 use Rattle.history_laws.proofs.Writes.{all_passing, all_get, get_append, get_low}

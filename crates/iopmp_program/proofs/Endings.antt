@@ -2,7 +2,7 @@
 use Rattle.std.proofs.Common.{◌≡◌, ℕ, ◌<◌, ◌≤◌, List, length, Option, Some, None, IfSome, refl, sym, ap, subst, inl, inr, ◌∙◌, length-append, arith}
 use Rattle.std.specs.Io.KnownBytes.{Consumes}
 use Rattle.iopmp_program.specs.declared.status.Status.{Status}
-use Rattle.iopmp_program.specs.declared.status.Status.TheVariants.{Done, Usage, BadInput, WriteFault, NoMemory, TooLong}
+use Rattle.iopmp_program.specs.declared.status.Status.TheVariants.{Usage, BadInput, WriteFault, NoMemory, TooLong}
 use Rattle.iopmp_program.specs.FaultLines.{usage_line}
 use Rattle.iopmp_program.specs.Endings.{Streams, WasRead, IsTooLong, EndsUsage}
 use Rattle.iopmp_program.specs.Running.{EndsRunning}

@@ -1,6 +1,6 @@
 -- The record of a lane of judged transactions: its verdicts are what the tables decide on its accesses.
-use Rattle.std.proofs.Common.{◌≡◌, ℕ, zero, suc, ◌+◌, ◌<◌, ◌≤◌, ◌++◌, ◌==◌, ◌&&◌, eqb, not, Bool, true, false, if◌then◌else◌, List, [], ◌∷◌, Option, Some, None, length, map, refl, sym, ap, ◌∙◌, subst, arith, add-one}
-use Rattle.std.specs.Prelude.{IsSome, slice_get, slice_set, nat_lt}
+use Rattle.std.proofs.Common.{◌≡◌, ℕ, ◌+◌, ◌++◌, ◌&&◌, eqb, not, Bool, true, false, if◌then◌else◌, List, [], ◌∷◌, Option, Some, None, length, map, refl, sym, ap, ◌∙◌, subst, arith}
+use Rattle.std.specs.Prelude.{slice_set, nat_lt}
 use Rattle.std.specs.List.{AllByRecursion, cons_option}
 use Rattle.std.proofs.lemmas.Bool.{eqb-true}
 use Rattle.std.proofs.lemmas.List.{length-set}
@@ -18,7 +18,7 @@ use Rattle.event_words.specs.declared.section.Command.{Command}
 use Rattle.event_words.specs.declared.section.Command.TheVariants.{Submit, Judge}
 use Rattle.event_words.specs.Word.{kind_code}
 use Rattle.event_words.specs.Events.{same_event, same_access}
-use Rattle.event_words.specs.Records.{OpenSlot, Cut, first_as, judgements, is_held, is_taken, is_verdict, slot_of, opened_slot, closed_by, goes_on, one_piece, submit_piece, settled, settle_piece, piece, nothing_left, after_piece, end_from}
+use Rattle.event_words.specs.Records.{OpenSlot, first_as, judgements, is_held, is_taken, is_verdict, slot_of, opened_slot, closed_by, submit_piece, settled, settle_piece, after_piece, end_from}
 use Rattle.history_laws.proofs.Pairs.{AllPairs, pairs_after}
 use Rattle.iopmp_program.specs.Summaries.{reply_code, entry_code, verdict_codes, verdict_code}
 

@@ -1,5 +1,5 @@
 -- An input that has an update with lanes is not refused.
-use Rattle.std.proofs.Common.{◌≡◌, ℕ, ◌<◌, ◌≤◌, Bool, true, List, Option, Some, None, Ok, Err, Result, refl, sym, ap, subst, ◌∙◌, inl, inr, arith}
+use Rattle.std.proofs.Common.{◌≡◌, ℕ, ◌<◌, ◌≤◌, Bool, true, List, Option, Some, None, Ok, Err, refl, sym, ap, subst, ◌∙◌, inl, inr, arith}
 use Rattle.event_words.specs.Sections.{SectionOf}
 use Rattle.script_reader.specs.Scripts.{need_of}
 use Rattle.script_reader.specs.LiveLanes.{lanes_at}

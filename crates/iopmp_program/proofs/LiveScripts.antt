@@ -1,9 +1,8 @@
 -- The script of an update, and why an input has none.
-use Rattle.std.proofs.Common.{◌≡◌, ℕ, ◌+◌, ◌≤◌, Bool, true, List, [], ◌∷◌, ◌++◌, length, map, Ok, Err, Result, None, Some, inl, inr, refl, sym, ◌∙◌, subst, arith}
+use Rattle.std.proofs.Common.{◌≡◌, ℕ, true, List, [], ◌∷◌, ◌++◌, map, Ok, Err, Result, None, Some, inl, inr, refl, ◌∙◌, subst, arith}
 use Rattle.std.specs.String.{string_bytes}
 use Rattle.std.specs.List.{AllByRecursion}
-use Rattle.event_words.specs.declared.section.Command.{Command}
-use Rattle.event_words.specs.Sections.{SectionOf, IsValidSection, NamesUnits, NamesOnlyUnits}
+use Rattle.event_words.specs.Sections.{SectionOf, IsValidSection, NamesUnits}
 use Rattle.script_reader.specs.declared.script.ScriptError.{ScriptError}
 use Rattle.script_reader.specs.declared.script.ScriptError.TheVariants.{BadLine, TooManyEvents}
 use Rattle.script_reader.specs.declared.script.ScriptError.TheVariants as refusals
@@ -17,10 +16,9 @@ use Rattle.iopmp_program.specs.declared.printing.NoText.{NoText}
 use Rattle.iopmp_program.specs.declared.printing.NoText.TheVariants.{Refused, NoMemory}
 use Rattle.iopmp_program.specs.declared.running.Played.TheVariants as played
 use Rattle.iopmp_program.specs.Updates.{UpdateOf, IsUpdate, IsNoUpdate}
-use Rattle.iopmp_program.specs.PlanTexts.{plan_section}
 use Rattle.iopmp_program.specs.LiveRuns.{live_script}
 use Rattle.iopmp_program.specs.FaultLines.{refusal_line}
-use Rattle.iopmp_program.specs.Givings.{HasLine, GivesOr, IsReadable, Plans, IsPlanOr, IsLanesOr, IsAffordable, NeedsMoreEvents, IsAffordableOr, IsScriptOfUpdate, IsUpdateLine, IsScriptOfUpdateOr, IsScript, IsPlayedLine}
+use Rattle.iopmp_program.specs.Givings.{HasLine, GivesOr, IsReadable, Plans, IsPlanOr, IsLanesOr, IsAffordable, NeedsMoreEvents, IsAffordableOr, IsScriptOfUpdate, IsScriptOfUpdateOr, IsScript, IsPlayedLine}
 
 -- ---- the script is well-formed
 

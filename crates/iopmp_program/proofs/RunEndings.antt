@@ -1,8 +1,7 @@
 -- A script that was played, and its report written, as the end of a command.
-use Rattle.std.proofs.Common.{◌≡◌, ℕ, List, [], ◌∷◌, Option, Some, None, refl, sym, subst, inl, inr}
+use Rattle.std.proofs.Common.{ℕ, List, Option, Some, None, refl, subst, inl, inr}
 use Rattle.script_reader.specs.Scripts.{ScriptOf}
-use Rattle.unit_core.specs.Histories.{history_of}
-use Rattle.history_laws.specs.Live.{LawLive, IsLiveHistory, KeepsPolicies}
+use Rattle.history_laws.specs.Live.{LawLive, IsLiveHistory}
 use Rattle.iopmp_program.specs.declared.status.Status.{Status}
 use Rattle.iopmp_program.specs.declared.status.Status.TheVariants.{Done, WriteFault}
 use Rattle.iopmp_program.specs.declared.running.Played.{Played}

@@ -1,6 +1,6 @@
 -- A legal history of a generated script is summarized by what its tables decide.
-use Rattle.std.proofs.Common.{◌≡◌, ℕ, zero, suc, ◌+◌, ◌*◌, ◌/◌, ◌<◌, ◌≤◌, ◌++◌, ◌==◌, Bool, true, false, cond, List, [], ◌∷◌, Option, Some, None, length, map, flat_map, sum_by, replicate, length-append, refl, sym, ap, ◌∙◌, subst, arith, add-one, zero-add}
-use Rattle.std.specs.Prelude.{IsSome, slice_get, count_by, codes, option_map}
+use Rattle.std.proofs.Common.{◌≡◌, ℕ, zero, suc, ◌+◌, ◌*◌, ◌/◌, ◌<◌, ◌≤◌, ◌++◌, false, cond, List, [], ◌∷◌, Option, Some, None, length, map, flat_map, sum_by, replicate, length-append, refl, sym, ap, ◌∙◌, subst, arith, add-one, zero-add}
+use Rattle.std.specs.Prelude.{slice_get, count_by, codes, option_map}
 use Rattle.std.specs.List.{AllByRecursion, range_with_len}
 use Rattle.std.specs.Fmt.{decimal}
 use Rattle.std.proofs.Math.Path.{fun_ext}
@@ -13,10 +13,7 @@ use Rattle.event_words.specs.declared.event.Event.{Event}
 use Rattle.event_words.specs.declared.event.Event.TheVariants as events
 use Rattle.event_words.specs.declared.reply.Decision.{Decision}
 use Rattle.event_words.specs.declared.reply.Decision.TheVariants as decisions
-use Rattle.event_words.specs.declared.reply.Reply.{Reply}
 use Rattle.event_words.specs.declared.record.LoggedEvent.{LoggedEvent}
-use Rattle.event_words.specs.declared.record.SectionEnd.{SectionEnd}
-use Rattle.event_words.specs.declared.section.Command.{Command}
 use Rattle.event_words.specs.Events.{caller_of}
 use Rattle.event_words.specs.Decisions.{decision}
 use Rattle.event_words.specs.declared.reply.Reply.TheVariants as replies
@@ -27,19 +24,19 @@ use Rattle.event_words.specs.Stalls.{flag_of}
 use Rattle.policy_compiler.specs.declared.image.RegPair.{RegPair}
 use Rattle.policy_compiler.specs.Laws.{kind_of}
 use Rattle.unit_core.specs.Units.{UnitState, event_step, step_at}
-use Rattle.unit_core.specs.Histories.{IsLegalHistory, HasRecord, HaveRecords, history_of, units_at, event_at, reply_at, logged_in}
+use Rattle.unit_core.specs.Histories.{IsLegalHistory, HasRecord, HaveRecords, history_of, units_at, event_at, logged_in}
 use Rattle.history_laws.specs.Verdicts.{decided, verdict_of}
-use Rattle.history_laws.specs.Unwritten.{is_boot, units_after_boot}
+use Rattle.history_laws.specs.Unwritten.{units_after_boot}
 use Rattle.history_laws.proofs.Runs.{own_state}
 use Rattle.history_laws.proofs.Writes.{all_filter}
-use Rattle.history_laws.proofs.WriteRecords.{event_of, write_by, writes_record}
+use Rattle.history_laws.proofs.WriteRecords.{event_of, write_by}
 use Rattle.history_laws.proofs.WordHistories.{is_entry}
 use Rattle.history_laws.proofs.Pairs.{pairs_of}
 use Rattle.history_laws.proofs.UnwrittenLaw.{caller_within}
 use Rattle.history_laws.proofs.Unstalled.{from_each, IsUnstalled, IsUnwritten, IsPassed, IsAnswered, state_booted, all_passed, pairs_answered}
 use Rattle.history_laws.proofs.BootWrites.{some_of, LeavesFlags, idle, boot_entries, booted_unit}
 use Rattle.iopmp_program.specs.Generated.{draw, drawn_access, transaction, lane_after, generated_lane, generated_shape, write_at, boot_writes, generated_boot, generated_script}
-use Rattle.iopmp_program.specs.Summaries.{is_code, denied_line, denied_lines, summary_text, verdict_code, reply_code, entry_code, verdict_codes, submitted, lane_accesses, accesses_of, generated_registers, decided_code, decided_codes, soak_text}
+use Rattle.iopmp_program.specs.Summaries.{is_code, denied_lines, summary_text, verdict_code, reply_code, entry_code, verdict_codes, submitted, lane_accesses, generated_registers, decided_code, soak_text}
 use Rattle.iopmp_program.specs.Soaks.{IsSoak}
 use Rattle.iopmp_program.proofs.GeneratedSound.{generated_quiet, each_lane}
 use Rattle.iopmp_program.proofs.LaneVerdicts.{judged_accesses, PassesHere, IsDecidedNext, lane_codes}

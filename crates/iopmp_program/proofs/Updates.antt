@@ -1,6 +1,5 @@
 -- Which refusal of an input of two policies the refusal of a part is.
 use Rattle.std.proofs.Common.{◌≡◌, ℕ, Bool, List, Ok, Err, Result, inl, inr}
-use Rattle.std.specs.String.{string_bytes}
 use Rattle.script_reader.specs.UpdateTexts.{UpdateTextOf, update_text_at}
 use Rattle.policy_compiler.specs.Policies.{PolicyOf}
 use Rattle.policy_compiler.specs.Gives.{Reads}

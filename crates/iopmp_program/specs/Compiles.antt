@@ -1,13 +1,10 @@
 -- How the program ends that compiles a policy: each status with its cause, and what was written.
-use Rattle.std.specs.Prelude.{◌≡◌, ◌⊎◌, ℕ, ◌≤◌, List, [], ◌∷◌, map, length, Some, None, Ok, Err}
+use Rattle.std.specs.Prelude.{◌≡◌, ◌⊎◌, ℕ, ◌≤◌, List, [], ◌∷◌, length, Some, None, Ok, Err}
 use Rattle.std.specs.declared.option.Option.{Option}
-use Rattle.event_words.specs.declared.section.Command.{Command}
-use Rattle.event_words.specs.declared.section.Command.TheVariants.{Write}
 use Rattle.script_reader.specs.Scripts.{ScriptOf}
 use Rattle.script_reader.specs.Printed.{script_text}
 use Rattle.policy_compiler.specs.declared.path.PolicyError.{PolicyError}
 use Rattle.policy_compiler.specs.declared.image.CompileError.{CompileError}
-use Rattle.policy_compiler.specs.declared.image.RegPair.{RegPair}
 use Rattle.policy_compiler.specs.Policies.{PolicyOf}
 use Rattle.policy_compiler.specs.Gives.{Reads}
 use Rattle.policy_compiler.specs.Needs.{need_refusal}

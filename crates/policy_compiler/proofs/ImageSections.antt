@@ -49,8 +49,15 @@ writes_count : (h : Shape) (guards : ℕ) (hs : List HardwareOf) → length (wri
 unfolding writes_of
 writes_count h guards hs =
     let last : List RegPair = pair (index_of Hwcfg0) 1 ∷ [] in
-    omega (arith, length-append (mdcfg_writes 0 0 hs) (member_writes h hs ++ (hardware_writes 0 hs ++ last)), length-append (member_writes h hs) (hardware_writes 0 hs ++ last), length-append (hardware_writes 0 hs) last,
-    mdcfg_count 0 0 hs, members_count h hs (h.srcmd == 0) refl, hardware_count 0 hs)
+    omega (
+      arith,
+      length-append (mdcfg_writes 0 0 hs) (member_writes h hs ++ (hardware_writes 0 hs ++ last)),
+      length-append (member_writes h hs) (hardware_writes 0 hs ++ last),
+      length-append (hardware_writes 0 hs) last,
+      mdcfg_count 0 0 hs,
+      members_count h hs (h.srcmd == 0) refl,
+      hardware_count 0 hs,
+    )
 
 few_writes : (p : PolicyOf) → IsPolicy p → need_refusal p ≡ None → length (image_of p).writes ≤ 4194304
 unfolding image_of

@@ -1,6 +1,4 @@
 -- The script of an update is that of the input.
-use Rattle.std.proofs.Common.{subst, sym}
-use Rattle.iopmp_program.specs.Givings.{IsScriptOfUpdateOr}
 use Rattle.iopmp_program.proofs.LiveScripts.{live_given}
 use Rattle.iopmp_program.proofs.live.live_script.Goals as goal
 

@@ -1,5 +1,5 @@
 -- The generated script can be run, and its history is summarized by what its tables decide.
-use Rattle.std.proofs.Common.{◌≡◌, ◌+◌, ◌≤◌, length, sym, ap, subst, ◌∙◌}
+use Rattle.std.proofs.Common.{◌≡◌, ◌≤◌, length, sym, ap, subst, ◌∙◌}
 use Rattle.std.specs.List.{AllByRecursion}
 use Rattle.event_words.specs.Valid.{IsValidShape}
 use Rattle.script_reader.specs.Scripts.{ScriptOf, IsWellFormedScript, need_of}

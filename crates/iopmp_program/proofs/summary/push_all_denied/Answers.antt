@@ -1,5 +1,5 @@
 -- A line goes from those that are left to what is written.
-use Rattle.std.proofs.Common.{◌∙◌, sym, ap, arith}
+use Rattle.std.proofs.Common.{◌∙◌, sym, arith}
 use Rattle.std.specs.String.{string_bytes}
 use Rattle.iopmp_program.proofs.DeniedLines.{line_more, no_line_more, all_lines}
 use Rattle.iopmp_program.proofs.summary.push_all_denied.Goals as goal
