@@ -10,6 +10,8 @@ mod compiling;
 mod compiling_tests;
 mod copies;
 mod fault_line;
+#[cfg(test)]
+mod fault_tests;
 mod generating;
 #[cfg(test)]
 mod generating_tests;
