@@ -14,7 +14,7 @@ use Rattle.event_words.specs.declared.reply.Verdict.TheVariants as verdicts
 use Rattle.event_words.specs.declared.record.LoggedEvent.{LoggedEvent}
 use Rattle.cascade_path.specs.declared.chain.ChainReply.{ChainReply}
 use Rattle.cascade_path.specs.declared.chain.ChainReply.TheVariants.{Allowed, Denied, Busy, Open, Odd}
-use Rattle.cascade_path.specs.Answers.{submission_answer, verdict_answer, judgement_answer, answer_to, event_answer, is_some_of, decides}
+use Rattle.cascade_path.specs.Answers.{aim_answer, submission_answer, verdict_answer, judgement_answer, answer_to, event_answer, is_some_of, decides}
 use Rattle.cascade_path.specs.Stages.{is_undecided, waits}
 
 -- ---- lists
@@ -44,6 +44,18 @@ same_submission kind k s t (replies.Value v) = k.odd s t (replies.Value v)
 same_submission kind k s t (replies.Verdict v) = k.odd s t (replies.Verdict v)
 same_submission kind k s t replies.Held = k.odd s t replies.Held
 same_submission kind k s t replies.NoSuch = k.odd s t replies.NoSuch
+same_submission kind k s t replies.Aimed = k.odd s t replies.Aimed
+
+same_aim : (kind : ChainReply → Bool) → IsKind kind → (s t : ℕ) (r : Reply) → is_some_of kind (aim_answer s r) ≡ is_some_of kind (aim_answer t r)
+same_aim kind k s t replies.Aimed = refl
+same_aim kind k s t replies.Passed = k.odd s t replies.Passed
+same_aim kind k s t replies.Queued = k.odd s t replies.Queued
+same_aim kind k s t replies.Busy = k.odd s t replies.Busy
+same_aim kind k s t (replies.Stalled d) = k.odd s t (replies.Stalled d)
+same_aim kind k s t (replies.Value v) = k.odd s t (replies.Value v)
+same_aim kind k s t (replies.Verdict v) = k.odd s t (replies.Verdict v)
+same_aim kind k s t replies.Held = k.odd s t replies.Held
+same_aim kind k s t replies.NoSuch = k.odd s t replies.NoSuch
 
 same_allowed : (kind : ChainReply → Bool) → IsKind kind → (s t next : ℕ) (b : Bool) → kind (cond b (Allowed next) (Odd s (replies.Verdict (verdicts.Allowed next)))) ≡ kind (cond b (Allowed next) (Odd t (replies.Verdict (verdicts.Allowed next))))
 same_allowed kind k s t next true = refl
@@ -62,12 +74,15 @@ same_judgement kind k s t place replies.Busy = k.odd s t replies.Busy
 same_judgement kind k s t place (replies.Stalled d) = k.odd s t (replies.Stalled d)
 same_judgement kind k s t place (replies.Value v) = k.odd s t (replies.Value v)
 same_judgement kind k s t place replies.NoSuch = k.odd s t replies.NoSuch
+same_judgement kind k s t place replies.Aimed = k.odd s t replies.Aimed
 
 same_answer : (kind : ChainReply → Bool) → IsKind kind → (s t : ℕ) (e : Event) (r : Reply) → is_some_of kind (answer_to s e r) ≡ is_some_of kind (answer_to t e r)
 same_answer kind k s t (events.Submit u c a) r = same_submission kind k s t r
 same_answer kind k s t (events.Judge u c p) r = same_judgement kind k s t p r
 same_answer kind k s t (events.RegWrite u c i v) r = refl
 same_answer kind k s t (events.RegRead u c i) r = refl
+same_answer kind k s t (events.Aim c a) r = same_aim kind k s t r
+same_answer kind k s t (events.Wide u c q w n) r = same_submission kind k s t r
 
 -- the kind of what an event decides at a stage
 pub decides_at : (kind : ChainReply → Bool) → IsKind kind → (stage : ℕ) (x : LoggedEvent) (answer : ChainReply) → event_answer stage x ≡ Some answer → decides kind x ≡ kind answer

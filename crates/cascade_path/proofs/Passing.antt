@@ -7,15 +7,15 @@ use Rattle.std.proofs.Math.Nat.{add-mul, mul-le-mul_right}
 use Rattle.std.proofs.Math.Seq.{drop-cons}
 use Rattle.std.proofs.lemmas.List.Folds.{list_any-append}
 use Rattle.event_words.specs.declared.access.Access.{Access}
-use Rattle.event_words.specs.declared.event.Event.TheVariants as events
 use Rattle.event_words.specs.declared.reply.Reply.{Reply}
 use Rattle.event_words.specs.declared.record.LoggedEvent.{LoggedEvent}
-use Rattle.event_words.specs.Records.{first_as, stage_following, stage_piece, through_stages}
+use Rattle.event_words.specs.Records.{one_stage, stage_following, through_stages}
+use Rattle.event_words.specs.Sections.{submission_events}
 use Rattle.shared_log.specs.Callers.{CallerView}
 use Rattle.cascade_path.specs.declared.chain.ChainReply.{ChainReply}
 use Rattle.cascade_path.specs.declared.chain.ChainReply.TheVariants.{Allowed, Denied, Busy, Open, Odd}
 use Rattle.cascade_path.specs.Making.{MakesEvents}
-use Rattle.cascade_path.specs.Answers.{event_answer, is_submission, last_stage, chain_reply, is_allowed, is_denied, is_busy, is_open, is_odd, is_some_of, decides}
+use Rattle.cascade_path.specs.Answers.{event_answer, is_beginning, last_stage, chain_reply, is_allowed, is_denied, is_busy, is_open, is_odd, is_some_of, decides}
 use Rattle.cascade_path.specs.Chains.{SendsThrough}
 use Rattle.cascade_path.specs.Stages.{PassesStage, allowed_next, waits}
 use Rattle.cascade_path.proofs.Making.{makes_none, makes_both, same_number}
@@ -73,11 +73,11 @@ counted made earlier last stage i answer so_far wait decided =
 is_last : (made earlier : List LoggedEvent) (last : LoggedEvent) → last_or None (made ++ (earlier ++ last ∷ [])) ≡ Some last
 is_last made earlier last = ap (last_or None) (sym (append_assoc made earlier (last ∷ []))) ∙ last-append None (made ++ earlier) last
 
-submitted : (made whole : List LoggedEvent) (i : ℕ) → count_by is_submission made ≡ i → count_by is_submission whole ≡ 1 → count_by is_submission (made ++ whole) ≡ i + 1
-submitted made whole i a b = count-append is_submission made whole ∙ (omega arith)
+begun : (made whole : List LoggedEvent) (i : ℕ) → count_by is_beginning made ≡ i → count_by is_beginning whole ≡ 1 → count_by is_beginning (made ++ whole) ≡ i + 1
+begun made whole i a b = count-append is_beginning made whole ∙ (omega arith)
 
 -- the last event decides for all
-answered : (made : List LoggedEvent) (last : LoggedEvent) (i : ℕ) (answer : ChainReply) → last_or None made ≡ Some last → count_by is_submission made ≡ i + 1 → event_answer i last ≡ Some answer → chain_reply made ≡ Some answer
+answered : (made : List LoggedEvent) (last : LoggedEvent) (i : ℕ) (answer : ChainReply) → last_or None made ≡ Some last → count_by is_beginning made ≡ i + 1 → event_answer i last ≡ Some answer → chain_reply made ≡ Some answer
 answered made last i answer is count decided =
     let stage : last_stage made ≡ i = omega arith in
     ap (option_and_then (event_answer (last_stage made))) is ∙ ap (λ (s : ℕ). event_answer s last) stage ∙ decided
@@ -91,7 +91,7 @@ few_more : (i n : ℕ) (made whole : List LoggedEvent) → length made ≤ i * n
 few_more i n made whole a b = omega (arith, length-append made whole, add-mul i 1 n)
 
 next_record : (n tries : ℕ) (a : Access) (stages : List ℕ) (i requester : ℕ) (whole : List LoggedEvent) (next : Option ℕ) (rest : List LoggedEvent) → i < length stages
-    → stage_piece n tries (get_or stages i 0) (through_stages n tries a (drop (i + 1) stages)) (first_as (events.Submit (get_or stages i 0) n (record a { rrid = requester })) (whole ++ rest)) ≡ stage_following (through_stages n tries a (drop (i + 1) stages)) next rest
+    → one_stage n tries (get_or stages i 0) (record a { rrid = requester }) (through_stages n tries a (drop (i + 1) stages)) (whole ++ rest) ≡ stage_following (through_stages n tries a (drop (i + 1) stages)) next rest
     → through_stages n tries a (drop i stages) requester (whole ++ rest) ≡ stage_following (through_stages n tries a (drop (i + 1) stages)) next rest
 next_record n tries a stages i requester whole next rest h is =
     let e : drop i stages ≡ get_or stages i 0 ∷ drop (i + 1) stages = drop-cons stages i 0 h ∙ ap (λ (k : ℕ). get_or stages i 0 ∷ drop k stages) (sym (add-one i)) in
@@ -120,9 +120,9 @@ module _ {M S : Type 0} (after : S → ℕ → ℕ → S) (reply : S → ℕ →
   pub record Passing (c : CallerView M S) (stages : List ℕ) (access : Access) (tries i requester : ℕ) (d : CallerView M S) : Type 0 where
     pub made : List LoggedEvent
     pub adds : MakesEvents after reply c made d
-    pub few : length made ≤ i * (1 + tries)
+    pub few : length made ≤ i * (submission_events access + tries)
     pub so_far : (rest : List LoggedEvent) → through_stages c.number tries access stages access.rrid (made ++ rest) ≡ through_stages c.number tries access (drop i stages) requester rest
-    pub submissions : count_by is_submission made ≡ i
+    pub beginnings : count_by is_beginning made ≡ i
     pub allowed : count_by (decides is_allowed) made ≡ i
     pub no_denial : list_any (decides is_denied) made ≡ false
     pub no_busy : list_any (decides is_busy) made ≡ false
@@ -136,7 +136,7 @@ module _ {M S : Type 0} (after : S → ℕ → ℕ → S) (reply : S → ℕ →
     adds = makes_none after reply c;
     few = omega arith;
     so_far = λ rest. refl;
-    submissions = refl;
+    beginnings = refl;
     allowed = refl;
     no_denial = refl;
     no_busy = refl;
@@ -148,9 +148,9 @@ module _ {M S : Type 0} (after : S → ℕ → ℕ → S) (reply : S → ℕ →
   -- the stage's record, with the number that the caller had at first
   stage_record : (c d f : CallerView M S) (stage unit : ℕ) (a : Access) (tries : ℕ) (answer : ChainReply) (p : PassesStage after reply d stage unit a tries answer f) → d.number ≡ c.number
       → (go : ℕ → List LoggedEvent → Option (List LoggedEvent)) (rest : List LoggedEvent)
-      → stage_piece c.number tries unit go (first_as (events.Submit unit c.number a) ((p.earlier ++ p.last ∷ []) ++ rest)) ≡ stage_following go (allowed_next answer) rest
+      → one_stage c.number tries unit a go ((p.earlier ++ p.last ∷ []) ++ rest) ≡ stage_following go (allowed_next answer) rest
   stage_record c d f stage unit a tries answer p same go rest =
-      subst (λ (n : ℕ). stage_piece n tries unit go (first_as (events.Submit unit n a) ((p.earlier ++ p.last ∷ []) ++ rest)) ≡ stage_following go (allowed_next answer) rest) same (p.record_is go rest)
+      subst (λ (n : ℕ). one_stage n tries unit a go ((p.earlier ++ p.last ∷ []) ++ rest) ≡ stage_following go (allowed_next answer) rest) same (p.record_is go rest)
 
   one_more_record : (c d f : CallerView M S) (stages : List ℕ) (access : Access) (tries i requester : ℕ) (answer : ChainReply) (b : Passing c stages access tries i requester d) → i < length stages
       → (p : PassesStage after reply d i (get_or stages i 0) (record access { rrid = requester }) tries answer f) → (rest : List LoggedEvent)
@@ -161,7 +161,7 @@ module _ {M S : Type 0} (after : S → ℕ → ℕ → S) (reply : S → ℕ →
       ∙ next_record c.number tries access stages i requester (p.earlier ++ p.last ∷ []) (allowed_next answer) rest h
       (stage_record c d f i (get_or stages i 0) (record access { rrid = requester }) tries answer p (same_number after reply c d b.made b.adds) (through_stages c.number tries access (drop (i + 1) stages)) rest)
 
-  whole_few : (d f : CallerView M S) (stage unit : ℕ) (a : Access) (tries : ℕ) (answer : ChainReply) (p : PassesStage after reply d stage unit a tries answer f) → length (p.earlier ++ p.last ∷ []) ≤ 1 + tries
+  whole_few : (d f : CallerView M S) (stage unit : ℕ) (a : Access) (tries : ℕ) (answer : ChainReply) (p : PassesStage after reply d stage unit a tries answer f) → length (p.earlier ++ p.last ∷ []) ≤ submission_events a + tries
   whole_few d f stage unit a tries answer p = let few = p.few in omega (arith, length-append p.earlier (p.last ∷ []))
 
   -- one stage more, which allowed
@@ -172,9 +172,9 @@ module _ {M S : Type 0} (after : S → ℕ → ℕ → S) (reply : S → ℕ →
       let answer : ChainReply = Allowed next in record {
         made = b.made ++ whole;
         adds = makes_both after reply c d f b.made whole b.adds p.adds;
-        few = few_more i (1 + tries) b.made whole b.few (whole_few d f i (get_or stages i 0) (record access { rrid = requester }) tries answer p);
+        few = few_more i (submission_events access + tries) b.made whole b.few (whole_few d f i (get_or stages i 0) (record access { rrid = requester }) tries answer p);
         so_far = one_more_record c d f stages access tries i requester answer b h p;
-        submissions = submitted b.made whole i b.submissions p.submissions;
+        beginnings = begun b.made whole i b.beginnings p.beginnings;
         allowed = counted b.made p.earlier p.last i i answer b.allowed p.waiting p.decided;
         no_denial = some_of_kind is_denied denied_kind (λ s q. refl) b.made p.earlier p.last i answer b.no_denial p.waiting p.decided;
         no_busy = some_of_kind is_busy busy_kind (λ s q. refl) b.made p.earlier p.last i answer b.no_busy p.waiting p.decided;
@@ -188,7 +188,7 @@ module _ {M S : Type 0} (after : S → ℕ → ℕ → S) (reply : S → ℕ →
       → PassesStage after reply d i (get_or stages i 0) (record access { rrid = requester }) tries answer f → is_allowed answer ≡ false → allowed_next answer ≡ None → SendsThrough after reply c stages access tries answer f
   passing_ended c d f stages access tries i requester answer b h p refused none =
       let whole : List LoggedEvent = p.earlier ++ p.last ∷ [] in
-      let n : ℕ = 1 + tries in
+      let n : ℕ = submission_events access + tries in
       let last : last_or None (b.made ++ whole) ≡ Some p.last = is_last b.made p.earlier p.last in
       let most : (i + 1) * n ≤ length stages * n = mul-le-mul_right n (omega arith) in
       let few : length (b.made ++ whole) ≤ (i + 1) * n = few_more i n b.made whole b.few (whole_few d f i (get_or stages i 0) (record access { rrid = requester }) tries answer p) in
@@ -197,7 +197,7 @@ module _ {M S : Type 0} (after : S → ℕ → ℕ → S) (reply : S → ℕ →
         adds = makes_both after reply c d f b.made whole b.adds p.adds;
         few = omega arith;
         record_is = λ rest. one_more_record c d f stages access tries i requester answer b h p rest ∙ ap (λ (o : Option ℕ). stage_following (through_stages c.number tries access (drop (i + 1) stages)) o rest) none;
-        decided = answered (b.made ++ whole) p.last i answer last (submitted b.made whole i b.submissions p.submissions) p.decided;
+        decided = answered (b.made ++ whole) p.last i answer last (begun b.made whole i b.beginnings p.beginnings) p.decided;
         cause = record {
           allowed = refused ∙ sym (ap (λ (k : ℕ). eqb k (length stages)) count ∙ ne_eqb i (length stages) (λ e. omega arith));
           denied = sym (some_of_kind is_denied denied_kind (λ s q. refl) b.made p.earlier p.last i answer b.no_denial p.waiting p.decided);
@@ -216,9 +216,9 @@ module _ {M S : Type 0} (after : S → ℕ → ℕ → S) (reply : S → ℕ →
       let stage : latest.stage + 1 ≡ i = latest.before in record {
         made = b.made;
         adds = b.adds;
-        few = subst (λ (k : ℕ). length b.made ≤ k * (1 + tries)) same b.few;
+        few = subst (λ (k : ℕ). length b.made ≤ k * (submission_events access + tries)) same b.few;
         record_is = λ rest. b.so_far rest ∙ ap (λ (l : List ℕ). through_stages c.number tries access l requester rest) (drop_all stages i low);
-        decided = answered b.made latest.last latest.stage (Allowed requester) latest.is (b.submissions ∙ sym stage) latest.allows;
+        decided = answered b.made latest.last latest.stage (Allowed requester) latest.is (b.beginnings ∙ sym stage) latest.allows;
         cause = record {
           allowed = sym (ap (λ (k : ℕ). eqb k (length stages)) b.allowed ∙ eq-eqb i (length stages) same);
           denied = sym b.no_denial;

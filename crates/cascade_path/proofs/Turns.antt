@@ -32,6 +32,8 @@ same_judgement : (u c p : ℕ) (e : Event) → same_event (events.Judge u c p) e
 same_judgement u c p (events.RegWrite x y i v) h = absurd (let n : false ≡ true = h in cc)
 same_judgement u c p (events.RegRead x y i) h = absurd (let n : false ≡ true = h in cc)
 same_judgement u c p (events.Submit x y a) h = absurd (let n : false ≡ true = h in cc)
+same_judgement u c p (events.Aim x a) h = absurd (let n : false ≡ true = h in cc)
+same_judgement u c p (events.Wide x y r k n) h = absurd (let n : false ≡ true = h in cc)
 same_judgement u c p (events.Judge x y q) h =
     let one = and_parts (eqb u x) ((eqb c y) && (eqb p q)) h in
     let two = and_parts (eqb c y) (eqb p q) one.1 in
@@ -49,6 +51,7 @@ held_reply (replies.Stalled d) h = absurd (let n : false ≡ true = h in cc)
 held_reply (replies.Value v) h = absurd (let n : false ≡ true = h in cc)
 held_reply (replies.Verdict v) h = absurd (let n : false ≡ true = h in cc)
 held_reply replies.NoSuch h = absurd (let n : false ≡ true = h in cc)
+held_reply replies.Aimed h = absurd (let n : false ≡ true = h in cc)
 
 pub held_not : (r : Reply) → (r ≡ replies.Held → ⊥) → is_held r ≡ false
 held_not replies.Held h = absurd (h refl)
@@ -59,6 +62,7 @@ held_not (replies.Stalled d) h = refl
 held_not (replies.Value v) h = refl
 held_not (replies.Verdict v) h = refl
 held_not replies.NoSuch h = refl
+held_not replies.Aimed h = refl
 
 abbrev judged_as : Bool → Bool → ℕ → Event → LoggedEvent → List LoggedEvent → Option (Reply × List LoggedEvent)
 judged_as same on n e x xs = cond (not same) None (cond on (judgements n e xs) (Some (x.reply, xs)))

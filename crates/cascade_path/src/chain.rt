@@ -2,12 +2,12 @@
 ghost use Rattle.std.specs.Prelude.{◌≡◌, ◌+◌, ◌*◌, ◌<◌, ◌≤◌, ◌^◌, length};
 ghost use Rattle.std.specs.List.{AllByRecursion};
 ghost use Rattle.event_words.specs.declared.event.Event.TheVariants as events;
-ghost use Rattle.event_words.specs.Sections.{IsUnit};
+ghost use Rattle.event_words.specs.Sections.{IsUnit, submission_events};
 ghost use Rattle.event_words.specs.Valid.{IsValidAccess};
 ghost use Rattle.shared_log.specs.Callers.{Belongs, IsCaller};
 ghost use Rattle.cascade_path.specs.Answers.{judgement_answer};
 ghost use Rattle.cascade_path.specs.Chains.{SendsThrough};
-ghost use Rattle.cascade_path.specs.Stages.{JudgesUntil, PassesStage};
+ghost use Rattle.cascade_path.specs.Stages.{JudgesUntil, PassesStage, SubmitsOrMisses};
 ghost use Rattle.cascade_path.specs.declared.chain.ChainReply.TheVariants as answers;
 
 use event_words::{Access, Denial, Event, Machine, Reply, Verdict};
@@ -25,7 +25,8 @@ pub enum ChainReply {
     Busy { stage: u8 },
     /// It still waits in the queue of a unit, after all tries. `place` is that of its submission.
     Open { stage: u8, place: u32 },
-    /// A reply that no unit gives, as it came: an allowed verdict with a `next` above 63 is one too.
+    /// A reply that no unit gives, to an aim, a submission or a judgement, as it came: an allowed verdict
+    /// with a `next` above 63 is one too.
     Odd { stage: u8, reply: Reply },
 }
 
@@ -72,6 +73,49 @@ fn judgement_answer(stage: u8, place: u32, reply: Reply) -> ChainReply
     }
 }
 
+// Submits an access, by one event or, where it isn't narrow, by an Aim of its address and a Wide. It
+// answers the reply to the submission, or what an aim that isn't replied so decides.
+fn submit<M: Machine>(
+    caller: &mut Caller<M>,
+    shared: &Shared,
+    stage: u8,
+    unit: u8,
+    access: Access,
+) -> Result<Reply, ChainReply>
+    requires belongs { Belongs caller.old shared.now }
+    requires unit { unit < 4 }
+    requires access { IsValidAccess access }
+    requires left { submission_events access ≤ caller.old.left }
+    ensures submits { SubmitsOrMisses M.after M.reply caller.old stage unit access result caller.new }
+    ensures caller { IsCaller M.state M.next_place M.places M.after caller.new }
+{
+    let number = caller.number();
+    if access.narrow() {
+        let event = Event::Submit {
+            unit,
+            caller: number,
+            access,
+        };
+        return Ok(caller.call(shared, event));
+    }
+    let aim = Event::Aim {
+        caller: number,
+        addr: access.addr,
+    };
+    match caller.call(shared, aim) {
+        Reply::Aimed => {}
+        reply => return Err(ChainReply::Odd { stage, reply }),
+    }
+    let event = Event::Wide {
+        unit,
+        caller: number,
+        rrid: access.rrid,
+        kind: access.kind,
+        len: access.len,
+    };
+    Ok(caller.call(shared, event))
+}
+
 // Submits an access at one stage, and judges it where it is taken.
 fn pass_stage<M: Machine>(
     caller: &mut Caller<M>,
@@ -85,21 +129,20 @@ fn pass_stage<M: Machine>(
     requires unit { unit < 4 }
     requires access { IsValidAccess access }
     requires tries { 1 ≤ tries }
-    requires left { 1 + tries ≤ caller.old.left }
+    requires left { submission_events access + tries ≤ caller.old.left }
     ensures passes { PassesStage M.after M.reply caller.old stage unit access tries result caller.new }
     ensures caller { IsCaller M.state M.next_place M.places M.after caller.new }
     ensures next { (next : _) → result ≡ answers.Allowed next → next ≤ 63 }
 {
-    let submission = Event::Submit {
-        unit,
-        caller: caller.number(),
-        access,
+    let reply = match submit(caller, shared, stage, unit, access) {
+        Ok(reply) => reply,
+        Err(odd) => return odd,
     };
-    match caller.call(shared, submission) {
+    match reply {
         Reply::Passed | Reply::Queued => {
             let place = caller.place() - 1;
-            let reply = judge_until(caller, shared, unit, place, tries);
-            judgement_answer(stage, place, reply)
+            let last = judge_until(caller, shared, unit, place, tries);
+            judgement_answer(stage, place, last)
         }
         Reply::Busy => ChainReply::Busy { stage },
         Reply::Stalled(denial) => ChainReply::Denied { stage, denial },
@@ -107,10 +150,10 @@ fn pass_stage<M: Machine>(
     }
 }
 
-/// Sends an access through 1 to 4 units in turn. At each it is submitted, and where it is taken it is
-/// judged until the reply isn't Held, at most `tries` times. The first unit sees the access's own
-/// requester, and a later one the requester that the unit before it allowed. It takes no memory and
-/// never waits.
+/// Sends an access through 1 to 4 units in turn. At each it is submitted, by one event or by two where
+/// it isn't narrow, and where it is taken it is judged until the reply isn't Held, at most `tries`
+/// times. The first unit sees the access's own requester, and a later one the requester that the unit
+/// before it allowed. It takes no memory and never waits.
 ///
 /// The caller must belong to the log, each unit be 0 to 3, the access valid, and at least one judgement
 /// be tried. So many events must be left to the caller that each stage may make all its tries.
@@ -126,7 +169,7 @@ pub fn send_through<M: Machine>(
     requires units { AllByRecursion IsUnit stages.now }
     requires access { IsValidAccess access }
     requires tries { 1 ≤ tries }
-    requires left { length stages.now * (1 + tries) ≤ caller.old.left }
+    requires left { length stages.now * (submission_events access + tries) ≤ caller.old.left }
     ensures sends { SendsThrough M.after M.reply caller.old stages.now access tries result caller.new }
     ensures caller { IsCaller M.state M.next_place M.places M.after caller.new }
 {

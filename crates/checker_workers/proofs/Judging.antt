@@ -18,7 +18,7 @@ use Rattle.unit_core.specs.Units.{UnitState, judge_item, verdict_step, closed}
 use Rattle.event_words.specs.Valid.{IsValidEvent}
 use Rattle.shared_log.specs.Words.{AllEventWords}
 use Rattle.checker_workers.specs.declared.ticket.Judged.TheVariants.{Done, Held}
-use Rattle.checker_workers.specs.Ports.{PortView, AreAtReset, MakesEvent, units_after, unit_count, logged_at}
+use Rattle.checker_workers.specs.Ports.{PortView, IsAtReset, MakesEvent, units_after, unit_count, logged_at}
 use Rattle.checker_workers.specs.TicketViews.{TicketView}
 use Rattle.checker_workers.specs.Tickets.{IsOpenTicket, Judges, is_end, is_in_queue, unit_queues, item_waits}
 use Rattle.checker_workers.proofs.Making.{answers, with_reply}
@@ -44,7 +44,7 @@ held_item u place caller (Some item) = held_by u (closed place caller u) item (d
 
 held_where : (p q : PortView) (t : TicketView) (r : Reply) (m : MakesEvent p (judgement t) r q) → t.unit < unit_count p → is_held r ≡ is_in_queue t (units_after p (p.log ++ m.between))
 held_where p q t r m unit =
-    let a = answers p q (judgement t) r m unit in
+    let a = answers p q (judgement t) (judgement t) t.unit r m refl refl unit in
     ap is_held a.reply ∙ held_item a.unit t.place t.caller (find (is_item t.place t.caller) a.unit.submissions)
     ∙ ap (λ (o : Option UnitState). unit_queues t.place t.caller o) (sym a.is)
 
@@ -60,7 +60,7 @@ held_only r h none_given = ⊎_elim
     (λ (e : r ≡ replies.Held). e)
     (λ (e : (v : Verdict) × (r ≡ replies.Verdict v)). absurd (let n : true ≡ false = sym (ap is_verdict e.1) ∙ none_given in cc)) h
 
-pub judged_held : (p q : PortView) (t : TicketView) (r : Reply) → MakesEvent p (judgement t) r q → t.unit < unit_count p → AreAtReset p.first → AllEventWords q.log → IsValidEvent (judgement t) → IsOpenTicket p t → is_verdict r ≡ false
+pub judged_held : (p q : PortView) (t : TicketView) (r : Reply) → MakesEvent p (judgement t) r q → t.unit < unit_count p → IsAtReset p.first → AllEventWords q.log → IsValidEvent (judgement t) → IsOpenTicket p t → is_verdict r ≡ false
     → Judges p t (Held t) q
 judged_held p q t r m unit reset all valid h none_given =
     let is : r ≡ replies.Held = held_only r (open_reply p q t r m reset all valid h) none_given in
@@ -80,3 +80,4 @@ no_verdict (replies.Value n) h = refl
 no_verdict (replies.Verdict v) h = absurd (h v refl)
 no_verdict replies.Held h = refl
 no_verdict replies.NoSuch h = refl
+no_verdict replies.Aimed h = refl

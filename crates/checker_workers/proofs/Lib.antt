@@ -1,13 +1,16 @@
 pub mod Making
+pub mod Aims
 pub mod OpenTickets
 pub mod Repeats
 pub mod Standing
 pub mod Judging
 pub mod Tables
+pub mod Resting
 pub mod Turns
 pub mod Among
 pub mod NextRequesters
 pub mod Chains
+pub mod Submitting
 pub mod Commands
 pub mod Playing
 pub mod Crossing

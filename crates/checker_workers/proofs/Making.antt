@@ -17,17 +17,18 @@ use Rattle.event_words.specs.Valid.{IsValidEvent}
 use Rattle.event_words.specs.Word.{word_of, event_at}
 use Rattle.event_words.specs.Runs.{run_from}
 use Rattle.event_words.proofs.Runs.{event_at-word_of}
-use Rattle.unit_core.specs.Units.{UnitState, unit_at_reset, unit_step, event_step, step_at, decoded_step, submit_step, is_stalled, queue_length, opened, denied, stall_denial}
+use Rattle.unit_core.specs.Units.{UnitState, FabricState, unit_at_reset, unit_step, event_step, taken_as, taken_step, step_at, step_on, fabric_step, decoded_step, submit_step, is_stalled, queue_length, opened, denied, stall_denial}
 use Rattle.unit_core.specs.Fabrics.{state_after_word, reply_to_word}
 use Rattle.shared_log.specs.Callers.{AfterCall}
 use Rattle.shared_log.proofs.Histories.{own_events-after-call}
-use Rattle.checker_workers.specs.Ports.{PortView, AreAtReset, MakesEvent, own_events, logged_at, units_after, unit_count, is_value}
+use Rattle.checker_workers.specs.Ports.{PortView, IsAtReset, MakesEvent, own_events, logged_at, state_after, units_after, unit_count, is_value}
+use Rattle.checker_workers.specs.Tickets.{is_submit_reply}
 
-pub few_units : (us : List UnitState) → AreAtReset us → length us ≤ 4
-few_units us r = let few = r.few in let e = ap length r.is in omega (arith, length-map r.shapes unit_at_reset)
+pub few_units : (s : FabricState) → IsAtReset s → length s.units ≤ 4
+few_units s r = let few = r.few in let e = ap (λ (x : FabricState). length x.units) r.is in omega (arith, length-map r.shapes unit_at_reset)
 
-pub reply_of_event : (k : ℕ) (us : List UnitState) (e : Event) → IsValidEvent e → reply_to_word us k (word_of e) ≡ (event_step k us e).1
-reply_of_event k us e valid = ap (λ (o : Option Event). (decoded_step k us o).1) (event_at-word_of e valid)
+pub reply_of_event : (k : ℕ) (s : FabricState) (e : Event) → IsValidEvent e → reply_to_word s k (word_of e) ≡ (fabric_step k s e).1
+reply_of_event k s e valid = ap (λ (o : Option Event). (decoded_step k s o).1) (event_at-word_of e valid)
 
 pub makes_event : (p q : PortView) (e : Event) (r : Reply) → AfterCall state_after_word reply_to_word p (word_of e) r q → IsValidEvent e → caller_of e ≡ p.number → MakesEvent p e r q
 makes_event p q e r call valid own =
@@ -35,7 +36,7 @@ makes_event p q e r call valid own =
       between = call.between;
       others = call.others;
       log = call.log;
-      answered = call.answered ∙ reply_of_event (length words) (units_after p words) e valid;
+      answered = call.answered ∙ reply_of_event (length words) (state_after p words) e valid;
       own = own_events-after-call state_after_word reply_to_word p q e r call valid own;
       left = call.left;
       same = call.same;
@@ -43,40 +44,61 @@ makes_event p q e r call valid own =
 
 -- ---- no event changes the number of units
 
-step_count : (k : ℕ) (us : List UnitState) (e : Event) (o : Option UnitState) → length (step_at k us e o).0 ≡ length us
-step_count k us e None = refl
-step_count k us e (Some u) = length-set us (unit_of e) (unit_step k u e).0
+step_count : (k : ℕ) (us : List UnitState) (e : Event) (v : ℕ) (o : Option UnitState) → length (step_at k us e v o).0 ≡ length us
+step_count k us e v None = refl
+step_count k us e v (Some u) = length-set us v (unit_step k u e).0
 
-decoded_count : (k : ℕ) (us : List UnitState) (o : Option Event) → length (decoded_step k us o).0 ≡ length us
-decoded_count k us None = refl
-decoded_count k us (Some e) = step_count k us e (slice_get us (unit_of e))
+on_count : (k : ℕ) (us : List UnitState) (e : Event) (o : Option ℕ) → length (step_on k us e o).0 ≡ length us
+on_count k us e None = refl
+on_count k us e (Some v) = step_count k us e v (slice_get us v)
 
-run_count : (k : ℕ) (us : List UnitState) (ws : List ℕ) → length (run_from state_after_word k us ws) ≡ length us
-run_count k us [] = refl
-run_count k us (w ∷ ws) = run_count (suc k) (state_after_word us k w) ws ∙ decoded_count k us (event_at w)
+taken_count : (k : ℕ) (us : List UnitState) (o : Option Event) → length (taken_step k us o).0 ≡ length us
+taken_count k us None = refl
+taken_count k us (Some e) = on_count k us e (unit_of e)
+
+event_count : (k : ℕ) (aims : List ℕ) (us : List UnitState) (e : Event) → length (event_step k aims us e).0 ≡ length us
+event_count k aims us (events.Aim c a) = refl
+event_count k aims us (events.RegWrite u c i v) = taken_count k us (taken_as aims (events.RegWrite u c i v))
+event_count k aims us (events.RegRead u c i) = taken_count k us (taken_as aims (events.RegRead u c i))
+event_count k aims us (events.Submit u c a) = taken_count k us (taken_as aims (events.Submit u c a))
+event_count k aims us (events.Judge u c p) = taken_count k us (taken_as aims (events.Judge u c p))
+event_count k aims us (events.Wide u c r w n) = taken_count k us (taken_as aims (events.Wide u c r w n))
+
+decoded_count : (k : ℕ) (s : FabricState) (o : Option Event) → length (decoded_step k s o).0.units ≡ length s.units
+decoded_count k s None = refl
+decoded_count k s (Some e) = event_count k s.aims s.units e
+
+run_count : (k : ℕ) (s : FabricState) (ws : List ℕ) → length (run_from state_after_word k s ws).units ≡ length s.units
+run_count k s [] = refl
+run_count k s (w ∷ ws) = run_count (suc k) (state_after_word s k w) ws ∙ decoded_count k s (event_at w)
 
 -- ---- the unit of an event
 
+-- In a state the event comes to units as another, which may be itself.
+abbrev pub ComesAs : ℕ → FabricState → Event → Event → Type 0
+ComesAs k s e f = (fabric_step k s e).1 ≡ (step_on k s.units f (unit_of f)).1
+
 -- The unit answers.
-pub record Answers (p : PortView) (words : List ℕ) (e : Event) (r : Reply) : Type 0 where
+pub record Answers (p : PortView) (words : List ℕ) (e : Event) (v : ℕ) (r : Reply) : Type 0 where
   pub unit : UnitState
-  pub is : slice_get (units_after p words) (unit_of e) ≡ Some unit
+  pub is : slice_get (units_after p words) v ≡ Some unit
   pub reply : r ≡ (unit_step (length words) unit e).1
 
-pub answers : (p q : PortView) (e : Event) (r : Reply) (m : MakesEvent p e r q) → unit_of e < unit_count p → Answers p (p.log ++ m.between) e r
-answers p q e r m h =
+pub answers : (p q : PortView) (e f : Event) (v : ℕ) (r : Reply) (m : MakesEvent p e r q) → ComesAs (length (p.log ++ m.between)) (state_after p (p.log ++ m.between)) e f → unit_of f ≡ Some v → v < unit_count p
+    → Answers p (p.log ++ m.between) f v r
+answers p q e f v r m comes w h =
     let words : List ℕ = p.log ++ m.between in
     let us : List UnitState = units_after p words in
-    let d : UnitState = get_or p.first (unit_of e) (get_or us 0 (nothing p h)) in
-    let is = slice_get-get_or us (unit_of e) d (let n = run_count 0 p.first words in omega arith) in record {
-      unit = get_or us (unit_of e) d;
+    let d : UnitState = get_or p.first.units v (get_or us 0 (nothing p h)) in
+    let is = slice_get-get_or us v d (let n = run_count 0 p.first words in omega arith) in record {
+      unit = get_or us v d;
       is = is;
-      reply = m.answered ∙ ap (λ (o : Option UnitState). (step_at (length words) us e o).1) is;
+      reply = m.answered ∙ comes ∙ ap (λ (o : Option ℕ). (step_on (length words) us f o).1) w ∙ ap (λ (o : Option UnitState). (step_at (length words) us f v o).1) is;
     }
   where
-    nothing : (p : PortView) → unit_of e < unit_count p → UnitState
-    nothing p h = first_of_list p.first h where
-      first_of_list : (us : List UnitState) → unit_of e < length us → UnitState
+    nothing : (p : PortView) → v < unit_count p → UnitState
+    nothing p h = first_of_list p.first.units h where
+      first_of_list : (us : List UnitState) → v < length us → UnitState
       first_of_list [] l = absurd (omega arith)
       first_of_list (u ∷ us) l = u
 
@@ -84,13 +106,6 @@ pub written_value : (k : ℕ) (u : UnitState) (unit caller index value : ℕ) �
 written_value k u unit caller index value = refl
 
 -- ---- what a submission may reply
-
-abbrev pub is_submit_reply : Reply → Bool
-is_submit_reply replies.Passed = true
-is_submit_reply replies.Queued = true
-is_submit_reply replies.Busy = true
-is_submit_reply (replies.Stalled denial) = true
-is_submit_reply _ = false
 
 abbrev pub submit_on : ℕ → UnitState → ℕ → Access → Bool → Bool → Bool → UnitState × Reply
 submit_on k u c a x y z =
@@ -116,6 +131,7 @@ busy_only (replies.Value n) h p q s = let n : false ≡ true = h in cc
 busy_only (replies.Verdict v) h p q s = let n : false ≡ true = h in cc
 busy_only replies.Held h p q s = let n : false ≡ true = h in cc
 busy_only replies.NoSuch h p q s = let n : false ≡ true = h in cc
+busy_only replies.Aimed h p q s = let n : false ≡ true = h in cc
 
 -- the same event with a reply that is the same
 abbrev pub with_reply : (p q : PortView) (e : Event) (r r' : Reply) → MakesEvent p e r q → r ≡ r' → MakesEvent p e r' q
@@ -129,11 +145,6 @@ with_reply p q e r r' m is = record {
   same = m.same;
 }
 
--- a submission without a ticket
-pub submitted_busy : (p q : PortView) (unit caller : ℕ) (a : Access) (r : Reply) → MakesEvent p (events.Submit unit caller a) r q → caller ≡ p.number → unit < unit_count p
-    → (r ≡ replies.Passed → ⊥) → (r ≡ replies.Queued → ⊥) → ((d : Denial) → r ≡ replies.Stalled d → ⊥) → MakesEvent p (events.Submit unit p.number a) replies.Busy q
-submitted_busy p q unit caller a r m own there no_pass no_queue no_stall =
-    let e : Event = events.Submit unit caller a in
-    let an = answers p q e r m there in
-    let is : r ≡ replies.Busy = busy_only r (ap is_submit_reply an.reply ∙ submit_reply (length (p.log ++ m.between)) an.unit caller a) no_pass no_queue no_stall in
-    subst (λ (n : ℕ). MakesEvent p (events.Submit unit n a) replies.Busy q) own (with_reply p q e r replies.Busy m is)
+-- An Aim is replied so.
+pub aimed : (p q : PortView) (caller addr : ℕ) (r : Reply) → MakesEvent p (events.Aim caller addr) r q → caller ≡ p.number → MakesEvent p (events.Aim p.number addr) replies.Aimed q
+aimed p q caller addr r m own = subst (λ (n : ℕ). MakesEvent p (events.Aim n addr) replies.Aimed q) own (with_reply p q (events.Aim caller addr) r replies.Aimed m m.answered)

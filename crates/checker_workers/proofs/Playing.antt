@@ -11,11 +11,12 @@ use Rattle.event_words.specs.declared.section.Command.{Command}
 use Rattle.event_words.specs.Records.{end_from, piece, after_piece}
 use Rattle.event_words.specs.Sections.{IsValidCommand, AreValidCommands, NamesUnits, most_events, is_submit}
 use Rattle.checker_workers.specs.declared.lane.LaneEnd.TheVariants.{Done, Stopped}
-use Rattle.checker_workers.specs.Ports.{PortView, unit_count}
+use Rattle.checker_workers.specs.Ports.{PortView, EndWhole, unit_count}
 use Rattle.checker_workers.specs.TicketViews.{TicketView}
 use Rattle.checker_workers.specs.Slots.{slots_of, IsTicketTable}
 use Rattle.checker_workers.specs.Pieces.{MakesEvents, PlaysCommand, cut_to}
 use Rattle.checker_workers.specs.Lanes.{PlaysCommands}
+use Rattle.checker_workers.proofs.Resting.{ends_both}
 use Rattle.checker_workers.proofs.Tables.{table_empty}
 use Rattle.checker_workers.proofs.Turns.{makes_none, makes_both, same_number, same_count}
 
@@ -26,6 +27,7 @@ Table = List (Option TicketView)
 pub record Playing (p : PortView) (all : List Command) (i : ℕ) (q : PortView) (table : Table) (count capacity : ℕ) : Type 0 where
   pub made : List LoggedEvent
   pub adds : MakesEvents p made q
+  pub whole : EndWhole made
   pub so_far : (rest : List LoggedEvent) → end_from p.number all [] (made ++ rest) ≡ end_from p.number (drop i all) (slots_of table) rest
   pub tickets : IsTicketTable q table
   pub valid : AreValidCommands count (drop i all)
@@ -38,6 +40,7 @@ pub playing_none : (p : PortView) (all : List Command) (table : Table) (count ca
 playing_none p all table count capacity empty zeroth valid units enough room = record {
   made = [];
   adds = makes_none p;
+  whole = refl;
   so_far = λ rest. ap (λ (ts : Table). end_from p.number all (slots_of ts) rest) (sym empty);
   tickets = subst (IsTicketTable p) (sym empty) (table_empty p);
   valid = subst (λ (n : ℕ). AreValidCommands n all) (sym zeroth) valid;
@@ -89,6 +92,7 @@ pub playing_next : (p q s : PortView) (all : List Command) (i : ℕ) (table afte
 playing_next p q s all i table after count capacity count' capacity' command b e k counts same = record {
   made = b.made ++ k.made;
   adds = makes_both p q s b.made k.made b.adds k.adds;
+  whole = ends_both b.made k.made b.whole k.whole;
   so_far = λ rest. cut_record p q s all i table after count capacity command false b k e rest;
   tickets = k.tickets;
   valid = subst (λ (n : ℕ). AreValidCommands n (drop (i + 1) all)) (sym counts) (subst (AreValidCommands count) e b.valid).1;

@@ -23,6 +23,8 @@ same_event-refl (events.RegWrite u c i v) = both _ _ (eqb-refl u) (both _ _ (eqb
 same_event-refl (events.RegRead u c i) = both _ _ (eqb-refl u) (both _ _ (eqb-refl c) (eqb-refl i))
 same_event-refl (events.Submit u c a) = both _ _ (eqb-refl u) (both _ _ (eqb-refl c) (both _ _ (eqb-refl a.rrid) (both _ _ (eqb-refl (kind_code a.kind)) (both _ _ (eqb-refl a.addr) (eqb-refl a.len)))))
 same_event-refl (events.Judge u c p) = both _ _ (eqb-refl u) (both _ _ (eqb-refl c) (eqb-refl p))
+same_event-refl (events.Aim c a) = both _ _ (eqb-refl c) (eqb-refl a)
+same_event-refl (events.Wide u c r k n) = both _ _ (eqb-refl u) (both _ _ (eqb-refl c) (both _ _ (eqb-refl r) (both _ _ (eqb-refl (kind_code k)) (eqb-refl n))))
 
 pub first_as-cons : (e : Event) (x : LoggedEvent) (xs : List LoggedEvent) → x.event ≡ e → first_as e (x ∷ xs) ≡ Some (x, xs)
 first_as-cons e x xs is = ap (λ (t : Bool). cond t (Some (x, xs)) None) (ap (same_event e) is ∙ same_event-refl e)

@@ -15,10 +15,11 @@ use Rattle.event_words.specs.Events.{same_event}
 use Rattle.event_words.specs.Records.{judgements, polls, hits, is_verdict}
 use Rattle.shared_log.specs.Callers.{SharedView, Belongs}
 use Rattle.checker_workers.specs.declared.ticket.Judged.TheVariants.{Done, Held}
-use Rattle.checker_workers.specs.Ports.{PortView, MakesEvent, own_events, logged_at, unit_count}
+use Rattle.checker_workers.specs.Ports.{PortView, EndWhole, MakesEvent, own_events, logged_at, unit_count}
 use Rattle.checker_workers.specs.TicketViews.{TicketView}
 use Rattle.checker_workers.specs.Tickets.{IsOpenTicket, Judges, is_end}
 use Rattle.checker_workers.specs.Pieces.{MakesEvents, Polls, SettlesTicket}
+use Rattle.checker_workers.proofs.Resting.{ends_one}
 use Rattle.checker_workers.proofs.Standing.{judgement}
 use Rattle.checker_workers.proofs.Repeats.{judgements_left, judgements-held, judgements-last, polls_left, polls-missed, polls-hit}
 
@@ -77,6 +78,7 @@ other_place u t ne = and_right (u.unit == t.unit) _ (and_right (u.caller == t.ca
 pub record Polling (p : PortView) (event : Event) (mask value max i : ℕ) (q : PortView) : Type 0 where
   pub made : List LoggedEvent
   pub adds : MakesEvents p made q
+  pub whole : EndWhole made
   pub count : length made ≡ i
   pub so_far : (rest : List LoggedEvent) → polls_left max event mask value (made ++ rest) ≡ polls_left (max - i) event mask value rest
   pub others : (u : TicketView) → list_any (is_end u) made ≡ false
@@ -85,6 +87,7 @@ pub polling_none : (p : PortView) (event : Event) (mask value max : ℕ) → Pol
 polling_none p event mask value max = record {
   made = [];
   adds = makes_none p;
+  whole = refl;
   count = refl;
   so_far = λ rest. let e : max ≡ max - 0 = omega arith in ap (λ (n : ℕ). polls_left n event mask value rest) e;
   others = λ u. refl;
@@ -111,6 +114,7 @@ polling_missed p q s unit index mask value max i r b h read miss =
     let x : LoggedEvent = made_by q s event r m in record {
       made = b.made ++ x ∷ [];
       adds = makes_more p q s b.made event r b.adds m;
+      whole = ends_one b.made x refl;
       count = let c = b.count in omega (arith, length-append b.made (x ∷ []));
       so_far = λ rest. polled p q s event mask value max i r b h m rest ∙ polls-missed (max - (i + 1)) event mask value x rest refl miss;
       others = λ u. none_more u b.made x (b.others u) (ends_other u x refl);
@@ -128,6 +132,7 @@ polling_hit p q s unit index mask value max i r b h read hit =
     let x : LoggedEvent = made_by q s event r m in record {
       made = b.made ++ x ∷ [];
       adds = makes_more p q s b.made event r b.adds m;
+      whole = ends_one b.made x refl;
       few = let c = b.count in omega (arith, length-append b.made (x ∷ []));
       record_is = λ rest. some_polls max event mask value ((b.made ++ x ∷ []) ++ rest) (omega arith) ∙ polled p q s event mask value max i r b h m rest ∙ polls-hit (max - (i + 1)) event mask value x rest refl hit;
       others = λ u. none_more u b.made x (b.others u) (ends_other u x refl);
@@ -137,6 +142,7 @@ pub polling_end : (p q : PortView) (event : Event) (mask value max i : ℕ) → 
 polling_end p q event mask value max i b low high some = record {
   made = b.made;
   adds = b.adds;
+  whole = b.whole;
   few = let c = b.count in omega arith;
   record_is = λ rest. some_polls max event mask value (b.made ++ rest) some ∙ b.so_far rest ∙ (let e : max - i ≡ 0 = omega arith in ap (λ (n : ℕ). polls_left n event mask value rest) e);
   others = b.others;
@@ -147,6 +153,7 @@ polling_end p q event mask value max i b low high some = record {
 pub record Settling (p : PortView) (t : TicketView) (max i : ℕ) (q : PortView) (again : TicketView) : Type 0 where
   pub made : List LoggedEvent
   pub adds : MakesEvents p made q
+  pub whole : EndWhole made
   pub count : length made ≡ i
   pub so_far : (rest : List LoggedEvent) → judgements_left max (judgement t) (made ++ rest) ≡ judgements_left (max - i) (judgement t) rest
   pub others : (u : TicketView) → u.place ≢ t.place → list_any (is_end u) made ≡ false
@@ -157,6 +164,7 @@ pub settling_none : (p : PortView) (t : TicketView) (max : ℕ) → IsOpenTicket
 settling_none p t max h = record {
   made = [];
   adds = makes_none p;
+  whole = refl;
   count = refl;
   so_far = λ rest. let e : max ≡ max - 0 = omega arith in ap (λ (n : ℕ). judgements_left n (judgement t) rest) e;
   others = λ u ne. refl;
@@ -176,6 +184,7 @@ settling_held p q s t again next max i b h judges =
     let x : LoggedEvent = made_by q s (judgement t) replies.Held j.event in record {
       made = b.made ++ x ∷ [];
       adds = makes_more p q s b.made (judgement t) replies.Held b.adds j.event;
+      whole = ends_one b.made x refl;
       count = let c = b.count in omega (arith, length-append b.made (x ∷ []));
       so_far = λ rest. judged_next p q s t again max i replies.Held b h j.event rest ∙ judgements-held (max - (i + 1)) (judgement t) x rest refl refl;
       others = λ u ne. none_more u b.made x (b.others u ne) (ends_other u x (other_place u t ne));
@@ -193,6 +202,7 @@ settling_done p q s t again v max i b h judges =
     let x : LoggedEvent = made_by q s (judgement t) (replies.Verdict v) j.event in record {
       made = b.made ++ x ∷ [];
       adds = makes_more p q s b.made (judgement t) (replies.Verdict v) b.adds j.event;
+      whole = ends_one b.made x refl;
       few = let c = b.count in omega (arith, length-append b.made (x ∷ []));
       record_is = λ rest. some_judgements max (judgement t) ((b.made ++ x ∷ []) ++ rest) (omega arith) ∙ judged_next p q s t again max i (replies.Verdict v) b h j.event rest ∙ judgements-last (max - (i + 1)) (judgement t) x rest refl refl;
       others = λ u ne. none_more u b.made x (b.others u ne) (ends_other u x (other_place u t ne));
@@ -203,6 +213,7 @@ pub settling_end : (p q : PortView) (t again : TicketView) (max i : ℕ) → Set
 settling_end p q t again max i b low high some = record {
   made = b.made;
   adds = b.adds;
+  whole = b.whole;
   few = let c = b.count in omega arith;
   record_is = λ rest. some_judgements max (judgement t) (b.made ++ rest) some ∙ b.so_far rest ∙ (let e : max - i ≡ 0 = omega arith in ap (λ (n : ℕ). judgements_left n (judgement t) rest) e);
   others = b.others;

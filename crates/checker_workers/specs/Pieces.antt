@@ -6,14 +6,14 @@ use Rattle.event_words.specs.declared.event.Event.{Event}
 use Rattle.event_words.specs.declared.event.Event.TheVariants as events
 use Rattle.event_words.specs.declared.record.LoggedEvent.{LoggedEvent}
 use Rattle.event_words.specs.declared.section.Command.{Command}
-use Rattle.event_words.specs.Sections.{most_events}
+use Rattle.event_words.specs.Sections.{most_events, submission_events}
 use Rattle.event_words.specs.Records.{judgements, polls, piece, settle_piece, slot_of, through_stages, Cut}
 use Rattle.cascade_path.specs.declared.chain.ChainReply.{ChainReply}
 use Rattle.cascade_path.specs.Answers.{chain_reply, is_odd}
 use Rattle.checker_workers.specs.declared.ticket.Judged.{Judged}
 use Rattle.checker_workers.specs.declared.ticket.Submitted.{Submitted}
 use Rattle.checker_workers.specs.declared.ticket.Submitted.TheVariants.{Passed, Queued, Busy, Stalled}
-use Rattle.checker_workers.specs.Ports.{PortView, own_events}
+use Rattle.checker_workers.specs.Ports.{PortView, EndWhole, own_events}
 use Rattle.checker_workers.specs.TicketViews.{TicketView}
 use Rattle.checker_workers.specs.Tickets.{is_end, judged_reply, HandsBack}
 use Rattle.checker_workers.specs.Slots.{slots_of, IsTicketTable}
@@ -29,6 +29,7 @@ pub record MakesEvents (p : PortView) (made : List LoggedEvent) (q : PortView) :
 pub record SettlesTicket (p : PortView) (t : TicketView) (max : ℕ) (judged : Judged) (q : PortView) : Type 0 where
   pub made : List LoggedEvent
   pub adds : MakesEvents p made q
+  pub whole : EndWhole made
   pub few : length made ≤ max
   pub record_is : (rest : List LoggedEvent) → judgements max (events.Judge t.unit t.caller t.place) (made ++ rest) ≡ Some (judged_reply judged, rest)
   pub others : (u : TicketView) → u.place ≢ t.place → list_any (is_end u) made ≡ false
@@ -38,6 +39,7 @@ pub record SettlesTicket (p : PortView) (t : TicketView) (max : ℕ) (judged : J
 pub record Polls (p : PortView) (event : Event) (mask value max : ℕ) (hit : Bool) (q : PortView) : Type 0 where
   pub made : List LoggedEvent
   pub adds : MakesEvents p made q
+  pub whole : EndWhole made
   pub few : length made ≤ max
   pub record_is : (rest : List LoggedEvent) → polls max event mask value (made ++ rest) ≡ Some (hit, rest)
   pub others : (u : TicketView) → list_any (is_end u) made ≡ false
@@ -47,7 +49,8 @@ pub record Polls (p : PortView) (event : Event) (mask value max : ℕ) (hit : Bo
 pub record PlaysThrough (p : PortView) (stages : List ℕ) (access : Access) (max : ℕ) (answer : ChainReply) (q : PortView) : Type 0 where
   pub made : List LoggedEvent
   pub adds : MakesEvents p made q
-  pub few : length made ≤ length stages * (1 + max)
+  pub whole : EndWhole made
+  pub few : length made ≤ length stages * (submission_events access + max)
   pub record_is : (rest : List LoggedEvent) → through_stages p.number max access stages access.rrid (made ++ rest) ≡ Some rest
   pub decided : chain_reply made ≡ Some answer
   pub never_odd : is_odd answer ≡ false
@@ -60,6 +63,7 @@ cut_to table stops rest = record { slots = slots_of table; rest = rest; stops = 
 pub record PlaysSlot (p : PortView) (table : List (Option TicketView)) (i max : ℕ) (q : PortView) (after : List (Option TicketView)) : Type 0 where
   pub made : List LoggedEvent
   pub adds : MakesEvents p made q
+  pub whole : EndWhole made
   pub few : length made ≤ max
   pub record_is : (rest : List LoggedEvent) → settle_piece p.number max (slots_of table) i (slot_of (slots_of table) i) (made ++ rest) ≡ Some (cut_to after false rest)
   pub tickets : IsTicketTable q after
@@ -68,6 +72,7 @@ pub record PlaysSlot (p : PortView) (table : List (Option TicketView)) (i max : 
 pub record PlaysCommand (p : PortView) (table : List (Option TicketView)) (command : Command) (q : PortView) (after : List (Option TicketView)) (stops : Bool) : Type 0 where
   pub made : List LoggedEvent
   pub adds : MakesEvents p made q
+  pub whole : EndWhole made
   pub few : length made ≤ most_events command
   pub record_is : (rest : List LoggedEvent) → piece p.number (slots_of table) command (made ++ rest) ≡ Some (cut_to after stops rest)
   pub tickets : IsTicketTable q after

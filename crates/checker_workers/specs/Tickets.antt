@@ -1,13 +1,15 @@
 -- Tickets of submissions that are open.
 use Rattle.std.specs.Prelude.{◌≡◌, ℕ, ◌==◌, ◌&&◌, nat_lt, length, ◌++◌, ◌-◌, Bool, true, false, Option, Some, None, find, slice_get, List}
 use Rattle.std.specs.List.{list_any}
+use Rattle.event_words.specs.declared.access.Access.{Access}
 use Rattle.event_words.specs.declared.event.Event.{Event}
 use Rattle.event_words.specs.declared.event.Event.TheVariants as events
 use Rattle.event_words.specs.declared.reply.Reply.{Reply}
 use Rattle.event_words.specs.declared.reply.Reply.TheVariants as replies
 use Rattle.event_words.specs.declared.record.LoggedEvent.{LoggedEvent}
 use Rattle.event_words.specs.Events.{same_event}
-use Rattle.event_words.specs.Records.{is_taken, is_verdict, is_held}
+use Rattle.event_words.specs.Records.{is_taken, is_verdict, is_held, wide_event}
+use Rattle.event_words.specs.Valid.{is_narrow}
 use Rattle.unit_core.specs.declared.Submission.{Submission}
 use Rattle.unit_core.specs.Submissions.{is_item}
 use Rattle.unit_core.specs.Units.{UnitState}
@@ -20,6 +22,7 @@ use Rattle.checker_workers.specs.TicketViews.{TicketView}
 
 abbrev pub submits_on : ℕ → ℕ → Event → Bool
 submits_on unit caller (events.Submit u c access) = (u == unit) && (c == caller)
+submits_on unit caller (events.Wide u c rrid kind len) = (u == unit) && (c == caller)
 submits_on unit caller _ = false
 
 -- the ticket's submission, which was taken
@@ -59,6 +62,14 @@ submitted_reply (Queued t) = replies.Queued
 submitted_reply Busy = replies.Busy
 submitted_reply (Stalled denial) = replies.Stalled denial
 
+-- what a unit replies to a submission
+abbrev pub is_submit_reply : Reply → Bool
+is_submit_reply replies.Passed = true
+is_submit_reply replies.Queued = true
+is_submit_reply replies.Busy = true
+is_submit_reply (replies.Stalled denial) = true
+is_submit_reply _ = false
+
 abbrev pub judged_reply : Judged → Reply
 judged_reply (Done verdict) = replies.Verdict verdict
 judged_reply (Held t) = replies.Held
@@ -67,12 +78,34 @@ judged_reply (Held t) = replies.Held
 abbrev pub last_ticket : PortView → ℕ → TicketView
 last_ticket p unit = record { unit = unit; place = length p.log - 1; caller = p.number }
 
+-- A ticket that is answered is that of the last event.
+abbrev pub BearsTicket : PortView → ℕ → Submitted → Type 0
+BearsTicket p unit (Passed t) = t ≡ last_ticket p unit
+BearsTicket p unit (Queued t) = t ≡ last_ticket p unit
+BearsTicket p unit Busy = Unit {0}
+BearsTicket p unit (Stalled denial) = Unit {0}
+
 -- The ticket that a submission on this unit hands out is that of the port's last event, and it is open.
 abbrev pub HandsOut : PortView → ℕ → Submitted → Type 0
 HandsOut p unit (Passed t) = (t ≡ last_ticket p unit) × IsOpenTicket p t
 HandsOut p unit (Queued t) = (t ≡ last_ticket p unit) × IsOpenTicket p t
 HandsOut p unit Busy = Unit {0}
 HandsOut p unit (Stalled denial) = Unit {0}
+
+-- Two events of the port's caller: an Aim of the access's address, which is replied so, and a Wide.
+pub record MakesWide (p : PortView) (unit : ℕ) (access : Access) (reply : Reply) (q : PortView) : Type 0 where
+  pub between : PortView
+  pub aim : MakesEvent p (events.Aim p.number access.addr) replies.Aimed between
+  pub wide : MakesEvent between (wide_event unit p.number access) reply q
+
+-- A narrow access is submitted by one event, and any other by two.
+abbrev pub MakesByWidth : Bool → PortView → ℕ → Access → Reply → PortView → Type 0
+MakesByWidth true p unit access reply q = MakesEvent p (events.Submit unit p.number access) reply q
+MakesByWidth false p unit access reply q = MakesWide p unit access reply q
+
+-- A submission of the access, and the reply to its last event.
+abbrev pub MakesSubmission : PortView → ℕ → Access → Reply → PortView → Type 0
+MakesSubmission p unit access reply q = MakesByWidth (is_narrow access) p unit access reply q
 
 -- The ticket that a judgement hands back is the same, and it is open.
 abbrev pub HandsBack : PortView → TicketView → Judged → Type 0

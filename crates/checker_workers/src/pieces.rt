@@ -3,12 +3,12 @@
 ghost use Rattle.std.specs.Prelude.{◌≡◌, ◌+◌, ◌<◌, ◌≤◌, ◌^◌, not, true, false, length, vec_len, vec_capacity, slice_index_or, slice_set, if◌then◌else◌};
 ghost use Rattle.event_words.specs.declared.event.Event.TheVariants as events;
 ghost use Rattle.event_words.specs.declared.section.Command.TheVariants as commands;
-ghost use Rattle.event_words.specs.Sections.{IsValidCommand, NamesUnits, most_events, is_submit};
+ghost use Rattle.event_words.specs.Sections.{IsValidCommand, NamesUnits, most_events, is_submit, submission_events};
 ghost use Rattle.event_words.specs.Valid.{IsValidAccess};
 ghost use Rattle.shared_log.specs.Callers.{Belongs};
 ghost use Rattle.cascade_path.specs.Answers.{is_odd};
-ghost use Rattle.checker_workers.specs.Ports.{unit_count};
-ghost use Rattle.checker_workers.specs.Tickets.{IsOpenTicket};
+ghost use Rattle.checker_workers.specs.Ports.{RestsSince, unit_count};
+ghost use Rattle.checker_workers.specs.Tickets.{HandsOut, IsOpenTicket, MakesSubmission, submitted_reply};
 ghost use Rattle.checker_workers.specs.Slots.{IsTicketTable};
 ghost use Rattle.checker_workers.specs.Pieces.{Polls, SettlesTicket, PlaysSlot, PlaysCommand, ticket_of};
 
@@ -19,9 +19,10 @@ use cascade_path::ChainReply;
 use event_words::{Access, Command};
 use shared_log::Shared;
 
-// Tells the gate of the next event.
+// Tells the gate of the next event, which is no Wide.
 pub(crate) fn tell<G: Gate>(gate: &G, port: &Port, first: u32)
-    requires { port.now.left ≤ first }
+    requires first { port.now.left ≤ first }
+    requires rests { RestsSince first port.now }
 {
     gate.at(port.number(), first - port.left());
 }
@@ -60,6 +61,7 @@ fn poll<G: Gate>(
     requires belongs { Belongs port.old shared.now }
     requires left { max ≤ port.old.left }
     requires first { port.old.left ≤ first }
+    requires rests { RestsSince first port.old }
     requires some { 1 ≤ max }
     requires unit { watch.unit < unit_count port.old }
     requires index { watch.index < 2 ^ 22 }
@@ -87,6 +89,7 @@ fn settle<G: Gate>(
     requires belongs { Belongs port.old shared.now }
     requires left { max ≤ port.old.left }
     requires first { port.old.left ≤ first }
+    requires rests { RestsSince first port.old }
     requires some { 1 ≤ max }
     requires unit { ticket.unit < unit_count port.old }
     requires ticket { IsOpenTicket port.old ticket }
@@ -131,6 +134,7 @@ fn settle_slot<G: Gate>(
     requires belongs { Belongs port.old shared.now }
     requires left { max ≤ port.old.left }
     requires first { port.old.left ≤ first }
+    requires rests { RestsSince first port.old }
     requires some { 1 ≤ max }
     requires slot { slot < length table.old }
     requires tickets { IsTicketTable port.old table.old }
@@ -143,6 +147,28 @@ fn settle_slot<G: Gate>(
     if let Judged::Held(again) = settle(port, shared, gate, first, ticket, max) {
         put_ticket(table, at, again);
     }
+}
+
+// Submits an access. The gate hears of its first event alone.
+fn submit<G: Gate>(
+    port: &mut Port,
+    shared: &Shared,
+    gate: &G,
+    first: u32,
+    unit: u8,
+    access: Access,
+) -> Submitted
+    requires belongs { Belongs port.old shared.now }
+    requires left { submission_events access ≤ port.old.left }
+    requires first { port.old.left ≤ first }
+    requires rests { RestsSince first port.old }
+    requires unit { unit < unit_count port.old }
+    requires access { IsValidAccess access }
+    ensures event { MakesSubmission port.old unit access (submitted_reply result) port.new }
+    ensures ticket { HandsOut port.new unit result }
+{
+    tell(gate, port, first);
+    port.submit(shared, unit, access)
 }
 
 // The ticket that a submission hands out.
@@ -179,6 +205,7 @@ pub(crate) fn play_command<G: Gate>(
     requires belongs { Belongs port.old shared.now }
     requires left { most_events command ≤ port.old.left }
     requires first { port.old.left ≤ first }
+    requires rests { RestsSince first port.old }
     requires valid { IsValidCommand (vec_len table.old) command }
     requires units { NamesUnits (unit_count port.old) command }
     requires room { is_submit command ≡ true → vec_len table.old < vec_capacity table.old }
@@ -199,8 +226,7 @@ pub(crate) fn play_command<G: Gate>(
             true
         }
         Command::Submit { unit, access, .. } => {
-            tell(gate, port, first);
-            let slot = ticket_of(port.submit(shared, unit, access));
+            let slot = ticket_of(submit(port, shared, gate, first, unit, access));
             table.push_reserved(slot);
             true
         }

@@ -1,15 +1,16 @@
-// One caller's calls on the units, one event each.
+// One caller's calls on the units, one event each, or two for a submission that isn't narrow.
 ghost use Rattle.std.specs.Prelude.{◌≡◌, ◌+◌, ◌*◌, ◌<◌, ◌≤◌, ◌^◌, length, true};
 ghost use Rattle.std.specs.List.{AllByRecursion};
 ghost use Rattle.event_words.specs.declared.event.Event.TheVariants as events;
 ghost use Rattle.event_words.specs.declared.reply.Reply.TheVariants as replies;
 ghost use Rattle.event_words.specs.Valid.{IsValidAccess, IsValidEvent};
 ghost use Rattle.event_words.specs.Events.{caller_of};
-ghost use Rattle.event_words.specs.Sections.{IsBelow, IsValidStages, stage_units};
+ghost use Rattle.event_words.specs.Records.{wide_event};
+ghost use Rattle.event_words.specs.Sections.{IsBelow, IsValidStages, stage_units, submission_events};
 ghost use Rattle.shared_log.specs.Words.{AllEventWords};
 ghost use Rattle.shared_log.specs.Callers.{Belongs};
-ghost use Rattle.checker_workers.specs.Ports.{AreAtReset, MakesEvent, unit_count, is_value};
-ghost use Rattle.checker_workers.specs.Tickets.{IsOpenTicket, Judges, HandsOut, submitted_reply, last_ticket};
+ghost use Rattle.checker_workers.specs.Ports.{IsAtReset, MakesEvent, unit_count, is_value};
+ghost use Rattle.checker_workers.specs.Tickets.{IsOpenTicket, Judges, BearsTicket, HandsOut, MakesSubmission, is_submit_reply, submitted_reply, last_ticket};
 ghost use Rattle.checker_workers.specs.Pieces.{PlaysThrough};
 
 use crate::ticket::{Judged, Submitted, Ticket};
@@ -26,19 +27,19 @@ pub struct Port {
 }
 
 impl Model for Port {
-    ghost use Rattle.checker_workers.specs.Ports.{PortView, AreAtReset};
+    ghost use Rattle.checker_workers.specs.Ports.{PortView, IsAtReset};
 
     ghost Value = { PortView };
 
     ghost view = { λ p. p.caller };
 
-    ghost invariant = { λ p. AreAtReset p.caller.first };
+    ghost invariant = { λ p. IsAtReset p.caller.first };
 }
 
 impl Port {
     /// The port of a caller whose units were one to four of valid shapes, at reset, at opening.
     pub fn new(caller: Caller<Fabric>) -> Port
-        requires { AreAtReset caller.first }
+        requires { IsAtReset caller.first }
         ensures { result ≡ caller }
     {
         Port { caller }
@@ -75,7 +76,7 @@ impl Port {
         requires event { IsValidEvent event }
         requires caller { caller_of event ≡ self.old.number }
         ensures event { MakesEvent self.old event result self.new }
-        ensures reset { AreAtReset self.old.first }
+        ensures reset { IsAtReset self.old.first }
         ensures words { AllEventWords self.new.log }
     {
         self.caller.call(shared, event)
@@ -131,28 +132,91 @@ impl Port {
         value_of(self.make(shared, event))
     }
 
-    /// Submits an access on a unit. The answer is that of the unit at the submission's place. A
-    /// ticket that it carries may be judged.
-    pub fn submit(&mut self, shared: &Shared, unit: u8, access: Access) -> Submitted
+    // Aims at an address.
+    #[tactic(auto, using(crate::proofs::Making::aimed))]
+    pub(crate) fn aim(&mut self, shared: &Shared, addr: u64)
+        requires belongs { Belongs self.old shared.now }
+        requires left { 1 ≤ self.old.left }
+        requires addr { addr < 2 ^ 52 }
+        ensures { MakesEvent self.old (events.Aim self.old.number addr) replies.Aimed self.new }
+    {
+        let caller = self.number();
+        self.make(shared, Event::Aim { caller, addr });
+    }
+
+    // Submits an access whose address its caller aims at.
+    pub(crate) fn submit_aimed(&mut self, shared: &Shared, unit: u8, access: Access) -> Reply
         requires belongs { Belongs self.old shared.now }
         requires left { 1 ≤ self.old.left }
         requires unit { unit < unit_count self.old }
         requires access { IsValidAccess access }
-        ensures event { MakesEvent self.old (events.Submit unit self.old.number access) (submitted_reply result) self.new }
-        ensures ticket { HandsOut self.new unit result }
+        ensures event { MakesEvent self.old (wide_event unit self.old.number access) result self.new }
+        ensures reset { IsAtReset self.old.first }
+        ensures number { self.old.number < 32 }
     {
         let caller = self.number();
-        let event = Event::Submit {
+        let event = Event::Wide {
             unit,
             caller,
-            access,
+            rrid: access.rrid,
+            kind: access.kind,
+            len: access.len,
         };
-        match self.make(shared, event) {
+        self.make(shared, event)
+    }
+
+    // Submits an access by one event or, where it isn't narrow, by two. It answers the reply to the last.
+    fn make_submission(&mut self, shared: &Shared, unit: u8, access: Access) -> Reply
+        requires belongs { Belongs self.old shared.now }
+        requires left { submission_events access ≤ self.old.left }
+        requires unit { unit < unit_count self.old }
+        requires access { IsValidAccess access }
+        ensures event { MakesSubmission self.old unit access result self.new }
+        ensures reply { is_submit_reply result ≡ true }
+        ensures some { 1 ≤ length self.new.log }
+        ensures unit { unit < 4 }
+    {
+        let caller = self.number();
+        if access.narrow() {
+            let event = Event::Submit {
+                unit,
+                caller,
+                access,
+            };
+            return self.make(shared, event);
+        }
+        self.aim(shared, access.addr);
+        self.submit_aimed(shared, unit, access)
+    }
+
+    // What a submission that was just replied so answers.
+    pub(crate) fn answer(&self, unit: u8, reply: Reply) -> Submitted
+        requires reply { is_submit_reply reply ≡ true }
+        requires some { 1 ≤ length self.now.log }
+        requires unit { unit < 4 }
+        ensures reply { submitted_reply result ≡ reply }
+        ensures ticket { BearsTicket self.now unit result }
+    {
+        match reply {
             Reply::Passed => Submitted::Passed(self.last_ticket(unit)),
             Reply::Queued => Submitted::Queued(self.last_ticket(unit)),
             Reply::Stalled(denial) => Submitted::Stalled(denial),
             _ => Submitted::Busy,
         }
+    }
+
+    /// Submits an access on a unit, by one event, or by two where it isn't narrow. The answer is that of
+    /// the unit at the place of the last. A ticket that it carries may be judged.
+    pub fn submit(&mut self, shared: &Shared, unit: u8, access: Access) -> Submitted
+        requires belongs { Belongs self.old shared.now }
+        requires left { submission_events access ≤ self.old.left }
+        requires unit { unit < unit_count self.old }
+        requires access { IsValidAccess access }
+        ensures event { MakesSubmission self.old unit access (submitted_reply result) self.new }
+        ensures ticket { HandsOut self.new unit result }
+    {
+        let reply = self.make_submission(shared, unit, access);
+        self.answer(unit, reply)
     }
 
     /// Judges the submission of an open ticket. The answer is that of the unit at the judgement's
@@ -175,8 +239,8 @@ impl Port {
         }
     }
 
-    // Sends an access through units in turn, with up to `max` judgements at each. It is the one call
-    // that makes more than one event. The units are there, so the answer is never odd.
+    // Sends an access through units in turn, with up to `max` judgements at each. The units are there, so
+    // the answer is never odd.
     pub(crate) fn send_through(
         &mut self,
         shared: &Shared,
@@ -189,7 +253,7 @@ impl Port {
         requires units { AllByRecursion (IsBelow (unit_count self.old)) (stage_units stages.now) }
         requires access { IsValidAccess access }
         requires max { 1 ≤ max }
-        requires left { stages.now.count * (1 + max) ≤ self.old.left }
+        requires left { stages.now.count * (submission_events access + max) ≤ self.old.left }
         ensures { PlaysThrough self.old (stage_units stages.now) access max result self.new }
     {
         let units = &stages.units[..stages.count as usize];

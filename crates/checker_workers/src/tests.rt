@@ -4,7 +4,7 @@ ghost use Rattle.event_words.specs.declared.access.Kind.TheVariants as kinds;
 ghost use Rattle.event_words.specs.declared.section.Command.TheVariants as commands;
 ghost use Rattle.unit_core.specs.Fabrics.{opening};
 ghost use Rattle.checker_workers.specs.declared.lane.LaneEnd.TheVariants as ends;
-ghost use Rattle.checker_workers.specs.Trials.{trial_shape, trial_units};
+ghost use Rattle.checker_workers.specs.Trials.{trial_shape, trial_state};
 
 use crate::{Gate, Lane, LaneEnd, NoMemory, Port, run_lanes};
 use event_words::{Access, Command, Kind, Section, Shape, Stages};
@@ -77,7 +77,7 @@ fn two_reads(alloc: Global) -> Result<Section, AllocError>
 }
 
 fn reading_lane(alloc: Global, caller: Caller<Fabric>) -> Result<Lane, NoMemory>
-    requires units { caller.first ≡ trial_units }
+    requires units { caller.first ≡ trial_state }
     requires left { 2 ≤ caller.left }
     ensures { IfOk result (λ lane. (lane.ended ≡ ends.Fresh) × (lane.port ≡ caller)) }
 {
@@ -161,7 +161,7 @@ fn one_chain(alloc: Global) -> Result<Section, AllocError>
 }
 
 fn sending_lane(alloc: Global, caller: Caller<Fabric>) -> Result<Lane, NoMemory>
-    requires units { caller.first ≡ trial_units }
+    requires units { caller.first ≡ trial_state }
     requires left { 6 ≤ caller.left }
     ensures { IfOk result (λ lane. (lane.ended ≡ ends.Fresh) × (lane.port ≡ caller)) }
 {
@@ -191,6 +191,59 @@ fn a_chain_is_told_once(rt: HostRuntime) -> Result<(), Fail> {
     lane.run(&shared, &gate);
     assert!(rt; gate.calls.load(Ordering::SeqCst) == 2);
     assert!(rt; gate.last.load(Ordering::SeqCst) == 4);
+    assert!(rt; lane.ended() == LaneEnd::Done);
+    Ok(())
+}
+
+fn one_page(alloc: Global) -> Result<Section, AllocError>
+    ensures { IfOk result (λ section. section ≡ record { commands = commands.Submit 0 (record { rrid = 1; kind = kinds.Read; addr = 0; len = 4096 }) 0 ∷ []; slots = 1 }) }
+{
+    let access = Access {
+        rrid: 1,
+        kind: Kind::Read,
+        addr: 0,
+        len: 4096,
+    };
+    let page = Command::Submit {
+        unit: 0,
+        access,
+        slot: 0,
+    };
+    let commands = Vec::from_slice(alloc, &[page])?;
+    Ok(Section { commands, slots: 1 })
+}
+
+fn page_lane(alloc: Global, caller: Caller<Fabric>) -> Result<Lane, NoMemory>
+    requires units { caller.first ≡ trial_state }
+    requires left { 2 ≤ caller.left }
+    ensures { IfOk result (λ lane. (lane.ended ≡ ends.Fresh) × (lane.port ≡ caller)) }
+{
+    let Ok(section) = one_page(alloc) else {
+        return Err(NoMemory);
+    };
+    Lane::new(alloc, section, Port::new(caller))
+}
+
+// The gate hears of the Aim of a submission by two events, not of its Wide, and of the lane's end.
+#[test]
+fn a_page_is_told_once(rt: HostRuntime) -> Result<(), Fail> {
+    let alloc: Global = rt.alloc();
+    let Ok(fabric) = replica(alloc) else {
+        panic!(rt; "no memory");
+    };
+    let Ok((shared, first)) = Shared::open(alloc, 1, 2, fabric) else {
+        panic!(rt; "no memory");
+    };
+    let Ok(mut lane) = page_lane(alloc, first) else {
+        panic!(rt; "no memory");
+    };
+    let gate = Count {
+        calls: AtomicU64::new(0),
+        last: AtomicU64::new(0),
+    };
+    lane.run(&shared, &gate);
+    assert!(rt; gate.calls.load(Ordering::SeqCst) == 2);
+    assert!(rt; gate.last.load(Ordering::SeqCst) == 2);
     assert!(rt; lane.ended() == LaneEnd::Done);
     Ok(())
 }

@@ -11,13 +11,13 @@ mod changes;
 mod covering;
 mod decoded;
 mod entries;
+mod marks;
 mod priority;
-mod steps;
 #[cfg(test)]
 mod tests;
 
 pub use decoded::Decoded;
-pub use steps::Steps;
+pub use event_words::Steps;
 
 /// There was no memory.
 #[derive(Clone, Copy, Debug, PartialEq, Eq)]

@@ -31,7 +31,7 @@ pub fn denial(regs: &Regs, kind: u8, entry: u16, mute_irq: bool, mute_err: bool)
 /// Records a violation of a transaction where it is kept and ERR_INFO.v is 0. Else nothing changes.
 ///
 /// ERR_INFO gets v 1, in ttype 1 for a read, 2 for a write, 3 for a fetch, and in etype the violation's
-/// code. ERR_REQADDR gets the bits 33:2 of the first byte's address, ERR_REQADDRH its bits 39:34, and
+/// code. ERR_REQADDR gets the bits 33:2 of the first byte's address, ERR_REQADDRH its bits 51:34, and
 /// ERR_REQID the requester and the entry. No other register changes.
 pub fn capture(regs: &mut Regs, access: &Access, denied: &Denial)
     requires access { IsValidAccess access.now }

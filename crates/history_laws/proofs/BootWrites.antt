@@ -18,11 +18,11 @@ use Rattle.event_words.proofs.Runs.{bearer-word_of}
 use Rattle.policy_compiler.specs.declared.image.RegPair.{RegPair}
 use Rattle.policy_compiler.specs.Commands.{write_command}
 use Rattle.policy_compiler.specs.Laws.{after_writes, guarded_write}
-use Rattle.unit_core.specs.Units.{UnitState, unit_at_reset, event_step, decoded_step, state_after}
+use Rattle.unit_core.specs.Units.{UnitState, FabricState, fabric_at_reset, no_aims, fabric_step, decoded_step, state_after}
 use Rattle.unit_core.specs.Fabrics.{state_after_word}
 use Rattle.unit_core.specs.Histories.{IsLegalHistory, with_event, events_of_words, logged_in}
 use Rattle.history_laws.specs.Unwritten.{is_boot, units_after_boot}
-use Rattle.history_laws.proofs.EventWords.{word_event}
+use Rattle.event_words.proofs.EventWords.{word_event}
 use Rattle.history_laws.proofs.Writes.{all_filter}
 use Rattle.history_laws.proofs.WriteRecords.{event_of, write_by, writes_record}
 use Rattle.history_laws.proofs.LiveLists.{events_logged}
@@ -77,14 +77,14 @@ boot_events shapes boot lanes words ps commands legal =
 
 -- ---- what they leave
 
-same_state : (k : ℕ) (us : List UnitState) (words : List ℕ) → AllByRecursion IsEventWord words → run_from state_after_word k us words ≡ state_after k us (events_of_words words)
-same_state k us [] all = refl
-same_state k us (w ∷ ws) all =
+same_state : (k : ℕ) (f : FabricState) (words : List ℕ) → AllByRecursion IsEventWord words → run_from state_after_word k f words ≡ state_after k f (events_of_words words)
+same_state k f [] all = refl
+same_state k f (w ∷ ws) all =
     let e = word_event w all.0 in
-    ap (λ o. run_from state_after_word (suc k) (decoded_step k us o).0 ws) e.back
-    ∙ same_state (suc k) (event_step k us e.event).0 ws all.1
-    ∙ ap (λ j. state_after j (event_step k us e.event).0 (events_of_words ws)) (sym (add-one k))
-    ∙ ap (λ o. state_after k us (with_event o (events_of_words ws))) (sym e.back)
+    ap (λ o. run_from state_after_word (suc k) (decoded_step k f o).0 ws) e.back
+    ∙ same_state (suc k) (fabric_step k f e.event).0 ws all.1
+    ∙ ap (λ j. state_after j (fabric_step k f e.event).0 (events_of_words ws)) (sym (add-one k))
+    ∙ ap (λ o. state_after k f (with_event o (events_of_words ws))) (sym e.back)
 
 -- a write of neither MDSTALL nor RRIDSCP
 pub record LeavesFlags (p : RegPair) : Type 0 where
@@ -99,16 +99,21 @@ kept_flags r flags p l =
 abbrev pub idle : Registers → List Bool → UnitState
 idle r flags = record { registers = r; flags = flags; submissions = [] }
 
-writes_leave : (k : ℕ) (r : Registers) (flags : List Bool) (ps : List RegPair) → AllByRecursion LeavesFlags ps → state_after k (idle r flags ∷ []) (map (write_by 0) ps) ≡ idle (after_writes r ps) flags ∷ []
-writes_leave k r flags [] h = refl
-writes_leave k r flags (p ∷ ps) h =
-    ap (λ fs. state_after (k + 1) (idle (guarded_write r p) fs ∷ []) (map (write_by 0) ps)) (kept_flags r flags p h.0)
-    ∙ writes_leave (k + 1) (guarded_write r p) flags ps h.1
+-- a fabric whose one unit is idle
+abbrev idle_fabric : List ℕ → Registers → List Bool → FabricState
+idle_fabric aims r flags = record { units = idle r flags ∷ []; aims = aims }
+
+writes_leave : (k : ℕ) (aims : List ℕ) (r : Registers) (flags : List Bool) (ps : List RegPair) → AllByRecursion LeavesFlags ps → state_after k (idle_fabric aims r flags) (map (write_by 0) ps) ≡ idle_fabric aims (after_writes r ps) flags
+writes_leave k aims r flags [] h = refl
+writes_leave k aims r flags (p ∷ ps) h =
+    ap (λ fs. state_after (k + 1) (idle_fabric aims (guarded_write r p) fs) (map (write_by 0) ps)) (kept_flags r flags p h.0)
+    ∙ writes_leave (k + 1) aims (guarded_write r p) flags ps h.1
 
 -- The unit after a boot section of writes that stall nobody.
 pub booted_unit : (shape : Shape) (boot : SectionOf) (lanes : List SectionOf) (words : List ℕ) (ps : List RegPair) → boot.commands ≡ map write_command ps → AllByRecursion LeavesFlags ps → IsLegalHistory (shape ∷ []) boot lanes words
     → units_after_boot (shape ∷ []) words ≡ idle (after_writes (at_reset shape) ps) (replicate shape.rrids false) ∷ []
 booted_unit shape boot lanes words ps commands leave legal =
-    same_state 0 (map unit_at_reset (shape ∷ [])) (filter is_boot words) (all_filter IsEventWord is_boot words legal.events)
-    ∙ ap (state_after 0 (map unit_at_reset (shape ∷ []))) (boot_events (shape ∷ []) boot lanes words ps commands legal)
-    ∙ writes_leave 0 (at_reset shape) (replicate shape.rrids false) ps leave
+    ap (λ (f : FabricState). f.units)
+    (same_state 0 (fabric_at_reset (shape ∷ [])) (filter is_boot words) (all_filter IsEventWord is_boot words legal.events)
+    ∙ ap (state_after 0 (fabric_at_reset (shape ∷ []))) (boot_events (shape ∷ []) boot lanes words ps commands legal)
+    ∙ writes_leave 0 no_aims (at_reset shape) (replicate shape.rrids false) ps leave)

@@ -1,5 +1,5 @@
 -- A report tells the whole history that it is of.
-use Rattle.std.proofs.Common.{◌≡◌, ℕ, suc, ◌+◌, ◌++◌, List, [], ◌∷◌, Option, Some, None, length, drop, flat_map, map, decimal, codes, refl, sym, ap, subst, ◌∙◌, arith, append_assoc}
+use Rattle.std.proofs.Common.{◌≡◌, ℕ, suc, ◌+◌, ◌++◌, List, [], ◌∷◌, Option, Some, None, length, drop, flat_map, decimal, codes, refl, sym, ap, subst, ◌∙◌, arith, append_assoc}
 use Rattle.std.specs.List.{AllByRecursion}
 use Rattle.std.proofs.lemmas.List.{append_cancel_left}
 use Rattle.event_words.specs.declared.shape.Shape.{Shape}
@@ -13,10 +13,10 @@ use Rattle.event_words.specs.Word.{word_of}
 use Rattle.unit_core.specs.Fabrics.{state_after_word, reply_to_word}
 use Rattle.unit_core.specs.Histories.{units_after, logged_in}
 use Rattle.unit_core.specs.Reports.{event_line, section_line, section_lines, unit_lines}
-use Rattle.unit_core.specs.Units.{UnitState, unit_at_reset}
-use Rattle.history_laws.proofs.EventTexts.{line_tells}
-use Rattle.history_laws.proofs.EventWords.{HasEvent, word_event}
-use Rattle.history_laws.proofs.Numerals.{BeginsOtherwise, decimal_numeral, number_first, run_end}
+use Rattle.unit_core.specs.Units.{UnitState, fabric_at_reset}
+use Rattle.unit_core.proofs.EventTexts.{line_tells}
+use Rattle.event_words.proofs.EventWords.{HasEvent, word_event}
+use Rattle.event_words.proofs.Numerals.{BeginsOtherwise, decimal_numeral, number_first, run_end}
 use Rattle.history_laws.specs.EqualReports.{LawReports}
 
 -- ---- what follows the lines of events begins with a letter
@@ -80,5 +80,5 @@ module _ {S : Type 0} (after : S → ℕ → ℕ → S) (reply : S → ℕ → �
 pub law_reports : LawReports
 law_reports shapes boot lanes v w p q e =
     let heading = run_end 10 (decimal (length v)) (decimal (length w)) 10 10 _ _ (decimal_numeral (length v)).1 (decimal_numeral (length w)).1 (omega arith) (omega arith) (ap (drop 7) e) in
-    lines_tell state_after_word reply_to_word 0 (map unit_at_reset shapes) v w p q (ending shapes boot lanes v) (ending shapes boot lanes w)
+    lines_tell state_after_word reply_to_word 0 (fabric_at_reset shapes) v w p q (ending shapes boot lanes v) (ending shapes boot lanes w)
     (ending_first shapes boot lanes v) (ending_first shapes boot lanes w) (ap (drop 1) heading.1)

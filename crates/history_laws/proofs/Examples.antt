@@ -1,5 +1,5 @@
 -- Small histories in which the premises of the laws hold.
-use Rattle.std.proofs.Common.{◌≡◌, ℕ, List, [], ◌∷◌, ◌++◌, Some, None, refl, arith, inr, true, false, ⊎_elim, subst, sym}
+use Rattle.std.proofs.Common.{◌≡◌, ℕ, List, [], ◌∷◌, ◌++◌, Some, None, refl, arith, inl, inr, true, false, ⊎_elim, subst, sym}
 use Rattle.std.specs.Prelude.{option_map}
 use Rattle.std.proofs.lemmas.Bool.{cases_eq}
 use lib.Count
@@ -7,14 +7,16 @@ use Rattle.event_words.specs.declared.shape.Shape.{Shape}
 use Rattle.event_words.specs.declared.access.Access.{Access}
 use Rattle.event_words.specs.declared.access.Kind.TheVariants.{Read}
 use Rattle.event_words.specs.declared.event.Event.{Event}
-use Rattle.event_words.specs.declared.event.Event.TheVariants.{RegWrite, RegRead, Submit, Judge}
+use Rattle.event_words.specs.declared.event.Event.TheVariants.{RegWrite, RegRead, Submit, Judge, Aim, Wide}
 use Rattle.event_words.specs.declared.reply.Reply.TheVariants.{Value, Busy, Held, NoSuch}
 use Rattle.event_words.specs.declared.reply.Verdict.TheVariants.{Allowed, Denied}
-use Rattle.unit_core.specs.Histories.{History, state_at, reply_at}
+use Rattle.unit_core.specs.Histories.{History, state_at, event_at, reply_at}
+use Rattle.unit_core.specs.Submitted.{submission_at}
 use Rattle.unit_core.specs.Guarded.{is_guarded, bit_of}
 use Rattle.unit_core.specs.Windows.{IsInDrainedWindow, IsVerdictOn, is_flagged}
 use Rattle.history_laws.specs.Tickets.{IsTaken, IsOwnVerdict, StandsAt}
 use Rattle.history_laws.specs.Busy.{FindsFullQueue}
+use Rattle.history_laws.specs.Aims.{IsLastAim}
 
 abbrev small : Shape
 small = record { rrids = 4; domains = 3; entries = 8; mdcfg = 0; k = 0; srcmd = 0; sps = false; queue = 1; transl = None }
@@ -140,3 +142,63 @@ kept_value = refl
 
 unguarded_entry : option_map (λ x. bit_of x 0x80c 0) (state_at locked 6 0) ≡ Some true
 unguarded_entry = refl
+
+-- ---- guarded bits of high registers
+
+abbrev wide : Shape
+wide = record { rrids = 4; domains = 40; entries = 8; mdcfg = 0; k = 0; srcmd = 0; sps = false; queue = 1; transl = None }
+
+-- MDLCKH locks domain 39, whose bit is bit 8 of the high registers.
+abbrev locked_high : History
+locked_high = record { shapes = wide ∷ []; events = RegWrite 0 0 0x11 0x100 ∷ RegWrite 0 0 0x419 0x1ff ∷ RegWrite 0 0 0x418 0x1ff ∷ RegWrite 0 0 0x11 0 ∷ [] }
+
+guarded_high : option_map (λ x. is_guarded x 0x419 8) (state_at locked_high 1 0) ≡ Some true
+guarded_high = refl
+
+kept_high : option_map (λ x. bit_of x 0x419 8) (state_at locked_high 4 0) ≡ Some false
+kept_high = refl
+
+lock_stays : option_map (λ x. bit_of x 0x11 8) (state_at locked_high 4 0) ≡ Some true
+lock_stays = refl
+
+-- The bit of domain 38 is free, and so is bit 8 of the low register, which is domain 7's.
+unguarded_high : option_map (λ x. bit_of x 0x419 7) (state_at locked_high 4 0) ≡ Some true
+unguarded_high = refl
+
+unguarded_low : option_map (λ x. bit_of x 0x418 8) (state_at locked_high 4 0) ≡ Some true
+unguarded_low = refl
+
+-- ---- a wide submission with another caller's aim between its two events
+
+abbrev page : Access
+page = record { rrid = 3; kind = Read; addr = 0x10000000000; len = 4096 }
+
+abbrev aimed : History
+aimed = of_events (opening ++ Aim 0 0x10000000000 ∷ Aim 1 0x20 ∷ Wide 0 0 3 Read 4096 ∷ Aim 0 0xfffffffffffff ∷ Wide 0 0 3 Read 2 ∷ Judge 0 0 5 ∷ [])
+
+-- It is a submission of the page at which its own caller aimed last.
+page_taken : IsTaken aimed 0 0 5 page
+page_taken = record { event = refl; reply = inl refl }
+
+other_aim : (addr : ℕ) → event_at aimed 4 ≡ Some (Aim 0 addr) → ⊥
+other_aim addr q = let n : Some (Aim 1 0x20) ≡ Some (Aim 0 addr) = q in let m : ◌≡◌ {A = ℕ} 1 0 = cc in omega arith
+
+page_aim : IsLastAim aimed 0 5 3 0x10000000000
+page_aim = record {
+  aim = record { event = refl; before = omega arith };
+  last = λ i addr a. ⊎_elim
+      (λ (e : i ≡ 4). absurd (other_aim addr (subst (λ n. event_at aimed n ≡ Some (Aim 0 addr)) e a.event)))
+      (λ (ne : i ≡ 4 → ⊥). omega (arith, a.before, ne))
+      (cases_eq i 4);
+}
+
+-- The later aim leaves the open submission as it is.
+page_judged : IsVerdictOn aimed 0 3 8
+page_judged = record { caller = 0; place = 5; access = page; verdict = _; event = refl; reply = refl; submission = refl; requester = refl }
+
+-- No submission ends past 2 ^ 52.
+past_the_end : submission_at aimed 7 ≡ None
+past_the_end = refl
+
+not_taken : reply_at aimed 7 ≡ Some NoSuch
+not_taken = refl

@@ -1,74 +1,65 @@
-use Rattle.std.proofs.Common.{◌≡◌, ℕ, suc, zero, ◌+◌, ◌*◌, ◌^◌, ◌<◌, ◌≤◌, true, false, eqb, List, Option, Some, None, length, get_or, set, bit_and, bit_or, min, max, arith, refl, sym, ap, ◌∙◌, subst, ⊎_elim}
-use Rattle.std.specs.Prelude.{slice_get}
+-- Bits that are guarded at a place are guarded at each later one, and keep their values.
+use Rattle.std.proofs.Common.{◌≡◌, ◌⊎◌, inl, inr, ℕ, suc, zero, ◌+◌, ◌*◌, ◌/◌, ◌%◌, ◌^◌, ◌<◌, ◌≤◌, ◌==◌, ◌&&◌, true, false, ltb, leb, List, [], ◌∷◌, Option, Some, None, length, get_or, set, bit_and, bit_or, min, max, arith, refl, sym, ap, ◌∙◌, subst, ⊎_elim}
+use Rattle.std.specs.List.{list_any}
 use Rattle.std.specs.Int.{bit_at, bit_not, w32}
-use Rattle.std.proofs.lemmas.Nat.Bits.{bit_at_and, bit_at_or, bit_at_not, bit_at-lt, bit_at-zero, bit_at_above, bit_at_ones, same_from_bits}
-use Rattle.std.proofs.lemmas.Nat.{or_lt}
+use Rattle.std.proofs.lemmas.Nat.Bits.{bit_at_and, bit_at_or, bit_at-lt, bit_at-zero, bit_at-suc, bit_at_above, bit_at_ones, bit_at_cat_low, same_from_bits, same_from_bits_below}
+use Rattle.std.proofs.lemmas.Nat.{or_lt, div-add-mod', mod_below, pow_pos}
 use Rattle.std.proofs.lemmas.List.{get_or-set_same, get_or_past, length-set}
 use Rattle.std.proofs.lemmas.Option.{slice_get_within, get_or_from_slice_get}
-use Rattle.std.proofs.lemmas.Bool.{cond_both, cases_eq, cases_lt, cases_Bool, eqb-true, eq-eqb}
+use Rattle.std.proofs.lemmas.Bool.{cases_eq, cases_lt, cases_Bool, eqb-true, and_from, or_left, or_right, lt-ltb, le-leb, false≢true}
 use Rattle.event_words.specs.declared.shape.Shape.{Shape}
 use Rattle.event_words.specs.declared.access.Access.{Access}
 use Rattle.event_words.specs.declared.reply.Denial.{Denial}
 use Rattle.event_words.specs.declared.event.Event.{Event}
 use Rattle.event_words.specs.declared.event.Event.TheVariants.{RegWrite, RegRead, Submit, Judge}
+use Rattle.event_words.specs.declared.register.Rule.TheVariants.{SetOnly, GrowOnly}
 use Rattle.event_words.specs.declared.register.Register.{Register}
 use Rattle.event_words.specs.declared.register.Register.TheVariants.{Mdcfglck, Entrylck}
-use Rattle.event_words.specs.Registers.{Registers, word_at, bits_of, has_bit, merged, written, write_at, register_at, has_register, if_had, named_at}
-use Rattle.event_words.specs.Guards.{where_true, guards_of, guarded_bits}
+use Rattle.event_words.specs.Registers.{Registers, word_at, bits_of, has_bit, field, merged, written, write_at, register_at}
+use Rattle.event_words.specs.Guards.{is_in, is_field_bit, is_guarded, number_of_bits, guarded_bits}
 use Rattle.event_words.specs.Denials.{recorded}
 use Rattle.event_words.specs.Valid.{IsValidShape}
-use Rattle.unit_core.proofs.KeptBits.{other_stays}
+use Rattle.event_words.proofs.BitNumbers.{number_bit, number_below}
+use Rattle.unit_core.proofs.KeptBits.{kept_bit, other_stays}
 use Rattle.unit_core.specs.Units.{UnitState, unit_step}
+use Rattle.unit_core.specs.Histories.{History}
+use Rattle.unit_core.specs.Submitted.{taken_at}
 use Rattle.history_laws.specs.Guards.{LawGuards}
-use Rattle.history_laws.proofs.Runs.{own_next, own_state, own_induction, shape_there, own_at}
-use Rattle.history_laws.proofs.Items.{submit_cases, judge_cases}
-use Rattle.history_laws.proofs.Registers.{recorded_other}
+use Rattle.unit_core.proofs.Runs.{own_next, own_state, own_induction, shape_there, own_at}
+use Rattle.unit_core.proofs.Items.{submit_cases, judge_cases}
+use Rattle.unit_core.proofs.Registers.{recorded_outside, AreWords, words_reset, words_written, words_recorded}
 use Rattle.history_laws.proofs.QueueLaw.{written-shape, recorded-shape}
-use Rattle.history_laws.proofs.Guarding.{Follows, Grows, grows_or, locks_grow, same_bits, guard_numbers, set_where}
-
--- ---- guards stay
-
-guards_grow_at : (r : Registers) (vs : List ℕ) → IsValidShape r.shape → Follows r (record r { words = vs }) → (o : Option Register) → ((q : Register) → o ≡ Some q → has_register r.shape q ≡ true)
-    → Grows (guards_of r o) (guards_of (record r { words = vs }) o)
-guards_grow_at r vs v f None had = λ i. omega arith
-guards_grow_at r vs v f (Some q) had =
-    grows_or _ _ _ _ (λ i. omega arith) (locks_grow r vs v f q (had q refl))
-
-had_register : (h : Shape) (o : Option Register) (q : Register) → if_had h o ≡ Some q → has_register h q ≡ true
-had_register h None q e = absurd (let n : None ≡ Some q = e in cc)
-had_register h (Some p) q e =
-    cond_both (has_register h p) (Some p) None (λ o. o ≡ Some q → has_register h q ≡ true)
-    (λ t s. let same : p ≡ q = cc in subst (λ p. has_register h p ≡ true) same t)
-    (λ t s. absurd (let n : None ≡ Some q = s in cc)) e
-
-guards_grow : (r s : Registers) → IsValidShape r.shape → Follows r s → (index : ℕ) → Grows (guarded_bits r index) (guarded_bits s index)
-guards_grow r s v f index i =
-    subst (λ h. bit_at (guarded_bits r index) i ≤ bit_at (guarded_bits (record { shape = h; words = s.words }) index) i) (sym f.shape)
-    (guards_grow_at r s.words v (record { shape = refl; kept = f.kept; domains = f.domains; entries = f.entries }) (register_at r.shape index)
-    (λ q. had_register r.shape (named_at r.shape index) q) i)
+use Rattle.history_laws.proofs.Guarding.{Follows, guarded_by, guarded_stays}
 
 -- ---- an earlier and a later state
 
 follows_self : (r : Registers) → Follows r r
 follows_self r = record { shape = refl; kept = λ index i h. refl; domains = omega arith; entries = omega arith }
 
-guarded_on : (r s : Registers) → IsValidShape r.shape → Follows r s → (index i : ℕ) → bit_at (guarded_bits r index) i ≡ 1 → bit_at (guarded_bits s index) i ≡ 1
-guarded_on r s v f index i h =
-    let more = guards_grow r s v f index i in
-    let below = bit_at-lt (guarded_bits s index) i in omega arith
-
 follows_on : (r s t : Registers) → IsValidShape r.shape → Follows r s → Follows s t → Follows r t
 follows_on r s t v f g = record {
   shape = g.shape ∙ f.shape;
-  kept = λ index i h. g.kept index i (guarded_on r s v f index i h) ∙ f.kept index i h;
+  kept = λ index i h. g.kept index i (guarded_stays r s v f index i h) ∙ f.kept index i h;
   domains = omega (arith, f.domains, g.domains);
   entries = omega (arith, f.entries, g.entries);
 }
 
 -- ---- a capture
 
-no_bit : (n i : ℕ) → n ≡ 0 → bit_at n i ≡ 1 → ⊥
-no_bit n i z h = let e = sym (ap (λ m. bit_at m i) z ∙ bit_at-zero i) ∙ h in absurd (omega arith)
+-- No bit of the record of errors is guarded.
+guarded_outside : (r : Registers) (j i : ℕ) → is_guarded r j i ≡ true → (j < 25) ⊎ (28 < j)
+guarded_outside r j i g = ⊎_elim inl (λ (from : 25 ≤ j). ⊎_elim inr (λ (upto : j ≤ 28). absurd (within from upto)) (cases_lt 28 j)) (cases_lt j 25)
+  where
+    not_at : (k : ℕ) → is_guarded r k i ≡ false → j ≡ k → ⊥
+    not_at k none e = false≢true (sym none ∙ (ap (λ k. is_guarded r k i) (sym e) ∙ g))
+
+    within : 25 ≤ j → j ≤ 28 → ⊥
+    within from upto =
+        let p = not_at 25 refl in
+        let q = not_at 26 refl in
+        let s = not_at 27 refl in
+        let t = not_at 28 refl in
+        ⊎_elim p (λ a. ⊎_elim q (λ b. ⊎_elim s (λ c. t (omega arith)) (cases_eq j 27)) (cases_eq j 26)) (cases_eq j 25)
 
 same_le : (a b : ℕ) → a ≡ b → b ≤ a
 same_le a b e = omega arith
@@ -76,41 +67,12 @@ same_le a b e = omega arith
 recorded_follows : (r : Registers) (a : Access) (d : Denial) → Follows r (recorded r a d)
 recorded_follows r a d = record {
   shape = recorded-shape r a d;
-  kept = kept;
-  domains = same_le _ _ (ap (bits_of 1 7) (other 18 (omega arith)));
-  entries = same_le _ _ (ap (bits_of 1 16) (other 19 (omega arith)));
+  kept = λ index i h. ap (λ n. has_bit n i) (recorded_outside r a d index (guarded_outside r index i h));
+  domains = same_le _ _ (ap (bits_of 1 7) (recorded_outside r a d 18 (inl (omega arith))));
+  entries = same_le _ _ (ap (bits_of 1 16) (recorded_outside r a d 19 (inl (omega arith))));
 }
-  where
-    other : (j : ℕ) → (j < 25) → word_at (recorded r a d) j ≡ word_at r j
-    other j l = recorded_other r a d j (λ e. absurd (omega arith)) (λ e. absurd (omega arith)) (λ e. absurd (omega arith)) (λ e. absurd (omega arith))
-
-    kept : (index i : ℕ) → bit_at (guarded_bits r index) i ≡ 1 → bit_at (word_at (recorded r a d) index) i ≡ bit_at (word_at r index) i
-    kept index i h =
-        ap (λ n. bit_at n i) (recorded_other r a d index
-        (λ e. no_bit (guarded_bits r 25) i refl (subst (λ j. bit_at (guarded_bits r j) i ≡ 1) e h))
-        (λ e. no_bit (guarded_bits r 26) i refl (subst (λ j. bit_at (guarded_bits r j) i ≡ 1) e h))
-        (λ e. no_bit (guarded_bits r 27) i refl (subst (λ j. bit_at (guarded_bits r j) i ≡ 1) e h))
-        (λ e. no_bit (guarded_bits r 28) i refl (subst (λ j. bit_at (guarded_bits r j) i ≡ 1) e h)))
 
 -- ---- a write
-
-kept_numbers : (o n k m : ℕ) → o < 2 → k ≡ 1 → m ≡ 0 → max (min o k) (min n m) ≡ o
-kept_numbers o n k m p q r = omega arith
-
-not_kept : (keep i : ℕ) → bit_at keep i ≡ 1 → bit_at (bit_not w32 keep) i ≡ 0
-not_kept keep i one = ⊎_elim
-    (λ (small : keep < 2 ^ 32). ⊎_elim
-    (λ (below : i < 32). let n = bit_at_not w32 keep i small below in omega arith)
-    (λ (above : 32 ≤ i). let n = bit_at_above keep 32 i small above in absurd (omega arith))
-    (cases_lt i 32))
-    (λ (large : 2 ^ 32 ≤ keep). let n : bit_not w32 keep ≡ 0 = omega arith in ap (λ m. bit_at m i) n ∙ bit_at-zero i)
-    (cases_lt keep (2 ^ 32))
-
--- A bit of the mask keeps its value.
-kept_bit : (keep old new i : ℕ) → bit_at keep i ≡ 1 → bit_at (merged keep old new) i ≡ bit_at old i
-kept_bit keep old new i one =
-    rw (bit_at_or (bit_and old keep) (bit_and new (bit_not w32 keep)) i, bit_at_and old keep i, bit_at_and new (bit_not w32 keep) i)
-    (kept_numbers (bit_at old i) (bit_at new i) (bit_at keep i) (bit_at (bit_not w32 keep) i) (bit_at-lt old i) one (not_kept keep i one))
 
 -- what is stored, where it is stored at all
 stored_else : (P : ℕ → Type 0) (ws : List ℕ) (i n : ℕ) → P n → P (get_or ws i 0) → P (get_or (set ws i n) i 0)
@@ -119,19 +81,40 @@ stored_else P ws i n p q = ⊎_elim
     (λ (past : length ws ≤ i). subst P (get_or_past ws i 0 past ∙ sym (get_or_past (set ws i n) i 0 (omega (arith, length-set ws i n)))) q)
     (cases_lt i (length ws))
 
-write_kept : (r : Registers) (index value keep i : ℕ) (o : Option Register) → bit_at keep i ≡ 1 → bit_at (word_at (write_at r index value keep o) index) i ≡ bit_at (word_at r index) i
-write_kept r index value keep i None h = refl
-write_kept r index value keep i (Some q) h =
-    stored_else (λ n. bit_at n i ≡ bit_at (word_at r index) i) r.words index _ (kept_bit keep (word_at r index) _ i h) refl
+write_kept : (r : Registers) (index value keep i : ℕ) (o : Option Register) → keep < 2 ^ 32 → i < 32 → bit_at keep i ≡ 1 → bit_at (word_at (write_at r index value keep o) index) i ≡ bit_at (word_at r index) i
+write_kept r index value keep i None small l h = refl
+write_kept r index value keep i (Some q) small l h =
+    stored_else (λ n. bit_at n i ≡ bit_at (word_at r index) i) r.words index _ (kept_bit keep (word_at r index) _ i small l h) refl
 
-written_kept : (r : Registers) (index value j i : ℕ) → bit_at (guarded_bits r j) i ≡ 1 → bit_at (word_at (written r index value (guarded_bits r index)) j) i ≡ bit_at (word_at r j) i
-written_kept r index value j i h = ⊎_elim
-    (λ (e : j ≡ index). subst (λ k. bit_at (guarded_bits r k) i ≡ 1 → bit_at (word_at (written r index value (guarded_bits r index)) k) i ≡ bit_at (word_at r k) i) (sym e)
-    (λ g. write_kept r index value (guarded_bits r index) i (register_at r.shape index) g) h)
-    (λ (ne : j ≡ index → ⊥). ap (λ n. bit_at n i) (other_stays r index value (guarded_bits r index) j (register_at r.shape index) ne))
-    (cases_eq j index)
+-- A guarded bit of the written register keeps its value.
+same_kept : (r : Registers) (index value i : ℕ) → i < 32 → is_guarded r index i ≡ true → bit_at (word_at (written r index value (guarded_bits r index)) index) i ≡ bit_at (word_at r index) i
+same_kept r index value i l g =
+    write_kept r index value (guarded_bits r index) i (register_at r.shape index) (number_below (is_guarded r index)) l (eqb-true (bit_at (guarded_bits r index) i) 1 (number_bit (is_guarded r index) i l ∙ g))
+
+no_bit : (n i : ℕ) → n < 2 ^ 32 → 32 ≤ i → has_bit n i ≡ false
+no_bit n i small l = ap (λ b. b == 1) (bit_at_above n 32 i small l)
+
+written_kept : (r : Registers) (index value j i : ℕ) → AreWords r → is_guarded r j i ≡ true → has_bit (word_at (written r index value (guarded_bits r index)) j) i ≡ has_bit (word_at r j) i
+written_kept r index value j i w g = ⊎_elim
+    (λ (low : i < 32). ⊎_elim
+    (λ (e : j ≡ index). subst (λ k. is_guarded r k i ≡ true → has_bit (word_at (written r index value (guarded_bits r index)) k) i ≡ has_bit (word_at r k) i) (sym e)
+    (λ g. ap (λ b. b == 1) (same_kept r index value i low g)) g)
+    (λ (ne : j ≡ index → ⊥). ap (λ n. has_bit n i) (other_stays r index value (guarded_bits r index) j (register_at r.shape index) ne))
+    (cases_eq j index))
+    (λ (high : 32 ≤ i).
+    let out = guarded_outside r j i g in
+    no_bit _ i (words_written r index value (guarded_bits r index) w j out) high ∙ sym (no_bit (word_at r j) i (w j out) high))
+    (cases_lt i 32)
 
 -- ---- fields that only grow
+
+low_bits : (w m i : ℕ) → i < w → bit_at (m % 2 ^ w) i ≡ bit_at m i
+low_bits w m i h = sym (bit_at_cat_low (m / 2 ^ w) w (m % 2 ^ w) i h) ∙ ap (λ n. bit_at n i) (div-add-mod' m (2 ^ w))
+
+-- a field from bit 1 on, by its bits
+same_bits : (w a b : ℕ) → ((i : ℕ) → i < w → bit_at a (suc i) ≡ bit_at b (suc i)) → bits_of 1 w a ≡ bits_of 1 w b
+same_bits w a b h = same_from_bits_below w (a / 2 ^ 1 % 2 ^ w) (b / 2 ^ 1 % 2 ^ w) (mod_below (a / 2 ^ 1) (2 ^ w) (pow_pos w)) (mod_below (b / 2 ^ 1) (2 ^ w) (pow_pos w))
+    (λ i l. low_bits w (a / 2) i l ∙ sym (bit_at-suc a i) ∙ h i l ∙ bit_at-suc b i ∙ sym (low_bits w (b / 2) i l))
 
 none_numbers : (o n k m : ℕ) → k ≡ 0 → n < 2 → m ≡ 1 → max (min o k) (min n m) ≡ n
 none_numbers o n k m p q r = omega arith
@@ -158,13 +141,19 @@ entries_grown old lock value l =
 lock_small : (a b : ℕ) → bit_or (bits_of 0 1 a) (bits_of 0 1 b) < 2
 lock_small a b = or_lt 1 (bits_of 0 1 a) (bits_of 0 1 b) (omega arith) (omega arith)
 
+-- the bits above bit 0 of a register with a lock bit and a number
+number_bit_of : (w i : ℕ) → i < w → list_any (is_in (suc i)) (field 0 1 SetOnly 0 ∷ field 1 w GrowOnly 0 ∷ []) ≡ true
+number_bit_of w i l =
+    or_right (leb 0 (suc i) && ltb (suc i) (0 + 1)) _ (or_left (leb 1 (suc i) && ltb (suc i) (1 + w)) false
+    (and_from (leb 1 (suc i)) (ltb (suc i) (1 + w)) (le-leb 1 (suc i) (omega arith)) (lt-ltb (suc i) (1 + w) (omega arith))))
+
 domains_write : (r : Registers) (value : ℕ) → bits_of 1 7 (word_at r 18) ≤ bits_of 1 7 (word_at (written r 18 value (guarded_bits r 18)) 18)
 domains_write r value = ⊎_elim
     (λ (locked : has_bit (word_at r 18) 0 ≡ true).
     same_le _ _ (same_bits 7 (word_at (written r 18 value (guarded_bits r 18)) 18) (word_at r 18) (λ i l.
-    written_kept r 18 value 18 (suc i) (guard_numbers (Some Mdcfglck) r Mdcfglck (suc i) refl (set_where _ 255 (suc i) locked (bit_at_ones 8 (suc i) (omega arith)))))))
+    same_kept r 18 value (suc i) (omega arith) (guarded_by (Some Mdcfglck) r Mdcfglck (suc i) refl (and_from (has_bit (word_at r 18) 0) _ locked (number_bit_of 7 i l))))))
     (λ (free : has_bit (word_at r 18) 0 ≡ false).
-    let none : guarded_bits r 18 ≡ 0 = ap (λ b. bit_or 0 (where_true b 255)) free in
+    let none : guarded_bits r 18 ≡ 0 = ap (λ b. number_of_bits (λ i. b && is_field_bit r.shape Mdcfglck i)) free in
     subst (λ keep. bits_of 1 7 (word_at r 18) ≤ bits_of 1 7 (word_at (written r 18 value keep) 18)) (sym none)
     (stored_else (λ n. bits_of 1 7 (word_at r 18) ≤ bits_of 1 7 n) r.words 18 _ (domains_grown (word_at r 18) _ value (lock_small (word_at r 18) value)) (omega arith)))
     (cases_Bool (has_bit (word_at r 18) 0))
@@ -173,9 +162,9 @@ entries_write : (r : Registers) (value : ℕ) → bits_of 1 16 (word_at r 19) �
 entries_write r value = ⊎_elim
     (λ (locked : has_bit (word_at r 19) 0 ≡ true).
     same_le _ _ (same_bits 16 (word_at (written r 19 value (guarded_bits r 19)) 19) (word_at r 19) (λ i l.
-    written_kept r 19 value 19 (suc i) (guard_numbers (Some Entrylck) r Entrylck (suc i) refl (set_where _ 131071 (suc i) locked (bit_at_ones 17 (suc i) (omega arith)))))))
+    same_kept r 19 value (suc i) (omega arith) (guarded_by (Some Entrylck) r Entrylck (suc i) refl (and_from (has_bit (word_at r 19) 0) _ locked (number_bit_of 16 i l))))))
     (λ (free : has_bit (word_at r 19) 0 ≡ false).
-    let none : guarded_bits r 19 ≡ 0 = ap (λ b. bit_or 0 (where_true b 131071)) free in
+    let none : guarded_bits r 19 ≡ 0 = ap (λ b. number_of_bits (λ i. b && is_field_bit r.shape Entrylck i)) free in
     subst (λ keep. bits_of 1 16 (word_at r 19) ≤ bits_of 1 16 (word_at (written r 19 value keep) 19)) (sym none)
     (stored_else (λ n. bits_of 1 16 (word_at r 19) ≤ bits_of 1 16 n) r.words 19 _ (entries_grown (word_at r 19) _ value (lock_small (word_at r 19) value)) (omega arith)))
     (cases_Bool (has_bit (word_at r 19) 0))
@@ -183,10 +172,10 @@ entries_write r value = ⊎_elim
 other_le : (w : ℕ) (r : Registers) (index value j : ℕ) → (j ≡ index → ⊥) → bits_of 1 w (word_at r j) ≤ bits_of 1 w (word_at (written r index value (guarded_bits r index)) j)
 other_le w r index value j ne = same_le _ _ (ap (bits_of 1 w) (other_stays r index value (guarded_bits r index) j (register_at r.shape index) ne))
 
-written_follows : (r : Registers) (index value : ℕ) → Follows r (written r index value (guarded_bits r index))
-written_follows r index value = record {
+written_follows : (r : Registers) (index value : ℕ) → AreWords r → Follows r (written r index value (guarded_bits r index))
+written_follows r index value w = record {
   shape = written-shape r index value (guarded_bits r index);
-  kept = λ j i h. written_kept r index value j i h;
+  kept = λ j i h. written_kept r index value j i w h;
   domains = ⊎_elim
       (λ (e : 18 ≡ index). subst (λ j. bits_of 1 7 (word_at r 18) ≤ bits_of 1 7 (word_at (written r j value (guarded_bits r j)) 18)) e (domains_write r value))
       (λ (ne : 18 ≡ index → ⊥). other_le 7 r index value 18 ne) (cases_eq 18 index);
@@ -197,30 +186,46 @@ written_follows r index value = record {
 
 -- ---- every later place
 
-step_follows : (k : ℕ) (x : UnitState) (e : Event) → Follows x.registers (unit_step k x e).0.registers
-step_follows k x (RegWrite unit caller index value) = written_follows x.registers index value
-step_follows k x (RegRead unit caller index) = follows_self x.registers
-step_follows k x (Submit unit caller a) =
+step_follows : (k : ℕ) (x : UnitState) (e : Event) → AreWords x.registers → Follows x.registers (unit_step k x e).0.registers
+step_follows k x (RegWrite unit caller index value) w = written_follows x.registers index value w
+step_follows k x (RegRead unit caller index) w = follows_self x.registers
+step_follows k x (Submit unit caller a) w =
     submit_cases (λ r. Follows x.registers r.0.registers) k x caller a (λ e. follows_self x.registers) (λ e f. follows_self x.registers) (λ d. recorded_follows x.registers a d) (follows_self x.registers)
-step_follows k x (Judge unit caller place) =
+step_follows k x (Judge unit caller place) w =
     judge_cases (λ r. Follows x.registers r.0.registers) x place caller (λ e. follows_self x.registers) (λ item e f. follows_self x.registers) (λ item e f v. follows_self x.registers)
     (λ item e f d v. recorded_follows x.registers item.access d)
+step_follows k x _ w = follows_self x.registers
 
-own_shape : (es : List Event) (u : ℕ) (shape : Shape) (k : ℕ) → (own_state es u shape k).registers.shape ≡ shape
-own_shape es u shape k =
-    own_induction (λ k x. x.registers.shape ≡ shape) es u shape refl (λ k x h. h) (λ k x e q t h. (step_follows k x e).shape ∙ h) k
+words_step : (k : ℕ) (x : UnitState) (e : Event) → AreWords x.registers → AreWords (unit_step k x e).0.registers
+words_step k x (RegWrite unit caller index value) w = words_written x.registers index value (guarded_bits x.registers index) w
+words_step k x (RegRead unit caller index) w = w
+words_step k x (Submit unit caller a) w = submit_cases (λ r. AreWords r.0.registers) k x caller a (λ e. w) (λ e f. w) (λ d. words_recorded x.registers a d w) w
+words_step k x (Judge unit caller place) w =
+    judge_cases (λ r. AreWords r.0.registers) x place caller (λ e. w) (λ item e f. w) (λ item e f v. w) (λ item e f d v. words_recorded x.registers item.access d w)
+words_step k x _ w = w
 
-own_follows : (es : List Event) (u : ℕ) (shape : Shape) → IsValidShape shape → (j k : ℕ) → j ≤ k → Follows (own_state es u shape j).registers (own_state es u shape k).registers
-own_follows es u shape v j zero l =
+-- what the registers of a unit of this shape always have
+record AreOf (shape : Shape) (r : Registers) : Type 0 where
+  pub same : r.shape ≡ shape
+  pub words : AreWords r
+
+own_registers : (h : History) (u : ℕ) (shape : Shape) → IsValidShape shape → (k : ℕ) → AreOf shape (own_state h u shape k).registers
+own_registers h u shape v k =
+    own_induction (λ k x. AreOf shape x.registers) h u shape (record { same = refl; words = words_reset shape v }) (λ k x r. r)
+    (λ k x e q t r. record { same = (step_follows k x e r.words).shape ∙ r.same; words = words_step k x e r.words }) k
+
+own_follows : (h : History) (u : ℕ) (shape : Shape) → IsValidShape shape → (j k : ℕ) → j ≤ k → Follows (own_state h u shape j).registers (own_state h u shape k).registers
+own_follows h u shape v j zero l =
     let e : j ≡ 0 = omega arith in
-    subst (λ i. Follows (own_state es u shape i).registers (own_state es u shape 0).registers) (sym e) (follows_self (own_state es u shape 0).registers)
-own_follows es u shape v j (suc k) l = ⊎_elim
-    (λ (e : j ≡ suc k). subst (λ i. Follows (own_state es u shape i).registers (own_state es u shape (suc k)).registers) (sym e) (follows_self (own_state es u shape (suc k)).registers))
+    subst (λ i. Follows (own_state h u shape i).registers (own_state h u shape 0).registers) (sym e) (follows_self (own_state h u shape 0).registers)
+own_follows h u shape v j (suc k) l = ⊎_elim
+    (λ (e : j ≡ suc k). subst (λ i. Follows (own_state h u shape i).registers (own_state h u shape (suc k)).registers) (sym e) (follows_self (own_state h u shape (suc k)).registers))
     (λ (ne : j ≡ suc k → ⊥).
-    let x = own_state es u shape k in
-    let before = own_follows es u shape v j k (omega arith) in
-    own_next (λ y. Follows (own_state es u shape j).registers y.registers) k u x (slice_get es k) (λ n. before)
-    (λ e q t. follows_on _ _ _ (subst IsValidShape (sym (own_shape es u shape j)) v) before (step_follows k x e)))
+    let x = own_state h u shape k in
+    let before = own_follows h u shape v j k (omega arith) in
+    let here = own_registers h u shape v k in
+    own_next (λ y. Follows (own_state h u shape j).registers y.registers) k u x (taken_at h k) (λ n. before)
+    (λ e q t. follows_on _ _ _ (subst IsValidShape (sym (own_registers h u shape v j).same) v) before (step_follows k x e here.words)))
     (cases_eq j (suc k))
 
 pub law_guards : LawGuards
@@ -228,8 +233,7 @@ law_guards h valid u j k x y l p q index i g =
     let there = shape_there h u j x p in
     let shape = there.0 in
     let v = subst IsValidShape (get_or_from_slice_get h.shapes u shape shape there.1) (valid u shape (slice_get_within h.shapes u shape there.1)) in
-    let is : own_state h.events u shape k ≡ y = let s = sym (own_at h u k shape there.1) ∙ q in cc in
-    let f = subst (λ z. Follows x.registers z.registers) is (subst (λ z. Follows z.registers (own_state h.events u shape k).registers) there.2 (own_follows h.events u shape v j k l)) in
-    let w = subst IsValidShape (sym (subst (λ z. z.registers.shape ≡ shape) there.2 (own_shape h.events u shape j))) v in
-    let one = eqb-true (bit_at (guarded_bits x.registers index) i) 1 g in
-    (eq-eqb (bit_at (guarded_bits y.registers index) i) 1 (guarded_on x.registers y.registers w f index i one), ap (λ n. eqb n 1) (f.kept index i one))
+    let is : own_state h u shape k ≡ y = let s = sym (own_at h u k shape there.1) ∙ q in cc in
+    let f = subst (λ z. Follows x.registers z.registers) is (subst (λ z. Follows z.registers (own_state h u shape k).registers) there.2 (own_follows h u shape v j k l)) in
+    let w = subst IsValidShape (sym (subst (λ z. z.registers.shape ≡ shape) there.2 (own_registers h u shape v j).same)) v in
+    (guarded_stays x.registers y.registers w f index i g, f.kept index i g)

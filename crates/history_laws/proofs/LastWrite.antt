@@ -3,7 +3,7 @@ use Rattle.std.proofs.Common.{◌≡◌, ℕ, zero, suc, ◌<◌, ◌≤◌, ◌
 use Rattle.std.proofs.lemmas.Option.{slice_get_within}
 use Rattle.std.proofs.lemmas.Bool.{cases_lt, eq-eqb, eqb-true}
 use Rattle.event_words.specs.declared.event.Event.{Event}
-use Rattle.event_words.specs.declared.event.Event.TheVariants.{RegWrite, RegRead, Submit, Judge}
+use Rattle.event_words.specs.declared.event.Event.TheVariants.{RegWrite}
 use Rattle.unit_core.specs.Histories.{History, event_at}
 use Rattle.unit_core.specs.Updates.{IsDrainedReading, IsUpdateWrite, IsRelease}
 
@@ -21,9 +21,7 @@ write_or_not h k = by (event_at h k) refl
     by : (o : Option Event) → event_at h k ≡ o → IsUpdateWrite h k ⊎ (IsUpdateWrite h k → ⊥)
     by None e = inr (λ w. let n : None ≡ Some (RegWrite w.unit 1 w.index w.value) = sym e ∙ w.event in cc)
     by (Some (RegWrite unit caller index value)) e = by_caller unit caller index value (caller == 1) e refl
-    by (Some (RegRead unit caller index)) e = inr (λ w. let n : Some (RegRead unit caller index) ≡ Some (RegWrite w.unit 1 w.index w.value) = sym e ∙ w.event in cc)
-    by (Some (Submit unit caller a)) e = inr (λ w. let n : Some (Submit unit caller a) ≡ Some (RegWrite w.unit 1 w.index w.value) = sym e ∙ w.event in cc)
-    by (Some (Judge unit caller place)) e = inr (λ w. let n : Some (Judge unit caller place) ≡ Some (RegWrite w.unit 1 w.index w.value) = sym e ∙ w.event in cc)
+    by (Some f) e = inr (λ w. let n : Some f ≡ Some (RegWrite w.unit 1 w.index w.value) = sym e ∙ w.event in cc)
 
 -- the last of the places below n
 record LastBelow (h : History) (n : ℕ) : Type 0 where

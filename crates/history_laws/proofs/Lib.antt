@@ -1,7 +1,5 @@
-pub mod Runs
-pub mod Items
+pub mod AimLaw
 pub mod QueueLaw
-pub mod Registers
 pub mod WindowLaw
 pub mod TicketSteps
 pub mod TicketLaw
@@ -10,16 +8,14 @@ pub mod GuardLaw
 pub mod BusyLaw
 pub mod Kept
 pub mod VerdictLaw
-pub mod EventWords
 pub mod WordHistories
 pub mod LoggedTests
+pub mod Accepted
 pub mod TicketReplies
 pub mod Examples
 pub mod LengthLaw
 pub mod OneRecord
 pub mod OneHistoryLaw
-pub mod Numerals
-pub mod EventTexts
 pub mod EqualReportsLaw
 pub mod QuietRecords
 pub mod WriteRecords
@@ -28,7 +24,6 @@ pub mod UnitStands
 pub mod LiveLists
 pub mod SameTables
 pub mod UnwrittenLaw
-pub mod Pairs
 pub mod Unstalled
 pub mod BootWrites
 pub mod PlanParts

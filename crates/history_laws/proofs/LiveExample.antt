@@ -1,5 +1,5 @@
--- A live history in numbers: a verdict before the drained reading, which the old policy denies, and one after
--- the release, which the new policy allows.
+-- A live history in numbers, of a unit with high registers: a verdict before the drained reading, which the old
+-- policy denies, and one after the release, which the new policy allows.
 use Rattle.std.proofs.Common.{◌≡◌, ℕ, List, [], ◌∷◌, ◌++◌, Some, None, map, refl, arith, true, false, subst, sym, ◌∙◌, ◌+◌, ◌-◌, ◌^◌, ◌<◌, ◌≤◌, ⊎_elim}
 use Rattle.std.proofs.lemmas.Bool.{cases_lt}
 use Rattle.std.specs.List.{AllByRecursion}
@@ -26,17 +26,17 @@ use Rattle.policy_compiler.specs.Decides.{policy_decision, rule_touches, rule_co
 use Rattle.unit_core.specs.Histories.{History, reply_at, history_of, logged_in, HasRecord, HaveRecords, BootComesFirst}
 use Rattle.unit_core.specs.Updates.{ReadsDrained, IsDrainedReading, IsUpdateWrite, IsRelease}
 use Rattle.history_laws.specs.Live.{IsLiveHistory, update_lanes}
-use Rattle.history_laws.proofs.EventWords.{is_event_word}
+use Rattle.event_words.proofs.Runs.{word_of-is_word}
 use Rattle.history_laws.proofs.QuietRecords.{IsNoWrite}
 use Rattle.history_laws.proofs.Writes.{all_get, get_low, get_append}
 
-abbrev small : Shape
-small = record { rrids = 1; domains = 1; entries = 1; mdcfg = 0; k = 0; srcmd = 0; sps = false; queue = 1; transl = None }
+abbrev wide : Shape
+wide = record { rrids = 1; domains = 40; entries = 1; mdcfg = 0; k = 0; srcmd = 0; sps = false; queue = 1; transl = None }
 
 -- One domain with requester 0, and one grant of 4096 bytes.
 abbrev with_rights : ℕ → PolicyOf
 with_rights rights = record {
-  shape = small;
+  shape = wide;
   domains = record { name = 97 ∷ []; rrids = 1; guards = []; grants = record { from = 0x80000000; size = 0x1000; rights = record { 0 = rights } } ∷ [] } ∷ [];
 }
 
@@ -50,7 +50,7 @@ new = with_rights 3
 abbrev written : Access
 written = record { rrid = 0; kind = Write; addr = 0x80000000; len = 4 }
 
-old_image : (image_of old).writes ≡ pair 4 0 ∷ pair 512 1 ∷ pair 1024 2 ∷ pair 2048 0x200001ff ∷ pair 2049 0 ∷ pair 2050 0x19 ∷ pair 2 1 ∷ []
+old_image : (image_of old).writes ≡ pair 4 0 ∷ pair 512 1 ∷ pair 1024 2 ∷ pair 1025 0 ∷ pair 2048 0x200001ff ∷ pair 2049 0 ∷ pair 2050 0x19 ∷ pair 2 1 ∷ []
 unfolding image_of writes_of member_writes rule_entries is_single lib.Count.ones
 old_image = refl
 
@@ -69,26 +69,26 @@ judged = record { commands = commands.Submit 0 written 0 ∷ commands.Settle 0 8
 -- Lane 2 is judged before the drained reading, and lane 3 submits while its requester is stalled.
 abbrev boot_events : List Event
 boot_events =
-    RegWrite 0 0 4 0 ∷ RegWrite 0 0 512 1 ∷ RegWrite 0 0 1024 2 ∷ RegWrite 0 0 2048 0x200001ff ∷ RegWrite 0 0 2049 0 ∷ RegWrite 0 0 2050 0x19 ∷ RegWrite 0 0 2 1 ∷ []
+    RegWrite 0 0 4 0 ∷ RegWrite 0 0 512 1 ∷ RegWrite 0 0 1024 2 ∷ RegWrite 0 0 1025 0 ∷ RegWrite 0 0 2048 0x200001ff ∷ RegWrite 0 0 2049 0 ∷ RegWrite 0 0 2050 0x19 ∷ RegWrite 0 0 2 1 ∷ []
 
 abbrev rewriting : List Event
 rewriting =
-    RegWrite 0 1 4 0 ∷ RegWrite 0 1 512 1 ∷ RegWrite 0 1 1024 2 ∷ RegWrite 0 1 2048 0x200001ff ∷ RegWrite 0 1 2049 0 ∷ RegWrite 0 1 2050 0x1b ∷ []
+    RegWrite 0 1 4 0 ∷ RegWrite 0 1 512 1 ∷ RegWrite 0 1 1024 2 ∷ RegWrite 0 1 1025 0 ∷ RegWrite 0 1 2048 0x200001ff ∷ RegWrite 0 1 2049 0 ∷ RegWrite 0 1 2050 0x1b ∷ []
 
 abbrev up_to_reading : List Event
-up_to_reading = boot_events ++ Submit 0 2 written ∷ RegWrite 0 1 12 1 ∷ Judge 0 2 7 ∷ []
+up_to_reading = boot_events ++ Submit 0 2 written ∷ RegWrite 0 1 12 1 ∷ Judge 0 2 8 ∷ []
 
 abbrev from_reading : List Event
-from_reading = RegRead 0 1 12 ∷ (rewriting ++ Submit 0 3 written ∷ RegWrite 0 1 12 0 ∷ Judge 0 3 17 ∷ [])
+from_reading = RegRead 0 1 12 ∷ (rewriting ++ Submit 0 3 written ∷ RegWrite 0 1 12 0 ∷ Judge 0 3 19 ∷ [])
 
 abbrev up_to_release : List Event
 up_to_release = up_to_reading ++ RegRead 0 1 12 ∷ (rewriting ++ Submit 0 3 written ∷ RegWrite 0 1 12 0 ∷ [])
 
 abbrev after_it : List Event
-after_it = Judge 0 3 17 ∷ []
+after_it = Judge 0 3 19 ∷ []
 
 abbrev lane_events : List Event
-lane_events = Submit 0 2 written ∷ RegWrite 0 1 12 1 ∷ Judge 0 2 7 ∷ from_reading
+lane_events = Submit 0 2 written ∷ RegWrite 0 1 12 1 ∷ Judge 0 2 8 ∷ from_reading
 
 abbrev updated : List Event
 updated = up_to_reading ++ from_reading
@@ -97,53 +97,53 @@ abbrev words : List ℕ
 words = map word_of updated
 
 abbrev history : History
-history = record { shapes = small ∷ []; events = updated }
+history = record { shapes = wide ∷ []; events = updated }
 
-same_history : history_of (small ∷ []) words ≡ history
+same_history : history_of (wide ∷ []) words ≡ history
 same_history = refl
 
 -- ---- what is replied
 
-before_reading : reply_at history 9 ≡ Some (Verdict (Denied (record { kind = 2; entry = 0; quiet = false; irq = false; kept = true })))
+before_reading : reply_at history 10 ≡ Some (Verdict (Denied (record { kind = 2; entry = 0; quiet = false; irq = false; kept = true })))
 unfolding lib.Count.count_trailing_zeros
 before_reading = refl
 
-drained : ReadsDrained history 10
+drained : ReadsDrained history 11
 unfolding lib.Count.count_trailing_zeros
 drained = record { value = 0; event = refl; reply = refl; idle = refl }
 
-held_back : reply_at history 17 ≡ Some Queued
+held_back : reply_at history 19 ≡ Some Queued
 unfolding lib.Count.count_trailing_zeros
 held_back = refl
 
-after_release : reply_at history 19 ≡ Some (Verdict (Allowed 0))
+after_release : reply_at history 21 ≡ Some (Verdict (Allowed 0))
 unfolding lib.Count.count_trailing_zeros
 after_release = refl
 
 -- ---- the drained reading and the release
 
-reading : IsDrainedReading history 10
-reading = record { drained = drained; first = λ k d. ⊎_elim (λ (l : k < 10). absurd (none_before k l d)) (λ (l : 10 ≤ k). l) (cases_lt k 10) }
+reading : IsDrainedReading history 11
+reading = record { drained = drained; first = λ k d. ⊎_elim (λ (l : k < 11). absurd (none_before k l d)) (λ (l : 11 ≤ k). l) (cases_lt k 11) }
   where
-    none_before : (k : ℕ) → k < 10 → ReadsDrained history k → ⊥
+    none_before : (k : ℕ) → k < 11 → ReadsDrained history k → ⊥
     none_before k l d =
         let e = sym (get_low up_to_reading from_reading k l) ∙ d.event in
-        let other = all_get (λ e. same_event (RegRead 0 1 12) e ≡ false) up_to_reading k (RegRead 0 1 12) (refl, (refl, (refl, (refl, (refl, (refl, (refl, (refl, (refl, (refl, tt)))))))))) e in
+        let other = all_get (λ e. same_event (RegRead 0 1 12) e ≡ false) up_to_reading k (RegRead 0 1 12) (refl, (refl, (refl, (refl, (refl, (refl, (refl, (refl, (refl, (refl, (refl, tt))))))))))) e in
         let n : true ≡ false = other in
         cc
 
-release : IsRelease history 18
+release : IsRelease history 20
 release = record {
-  place = 10;
+  place = 11;
   reading = reading;
   write = record { unit = 0; index = 12; value = 0; event = refl };
-  last = λ k w. ⊎_elim (λ (l : k < 19). omega arith) (λ (l : 19 ≤ k). absurd (none_after (k - 19) (subst (λ j. IsUpdateWrite history j) (past k l) w))) (cases_lt k 19);
+  last = λ k w. ⊎_elim (λ (l : k < 21). omega arith) (λ (l : 21 ≤ k). absurd (none_after (k - 21) (subst (λ j. IsUpdateWrite history j) (past k l) w))) (cases_lt k 21);
 }
   where
-    past : (k : ℕ) → 19 ≤ k → k ≡ 19 + (k - 19)
+    past : (k : ℕ) → 21 ≤ k → k ≡ 21 + (k - 21)
     past k l = omega arith
 
-    none_after : (m : ℕ) → IsUpdateWrite history (19 + m) → ⊥
+    none_after : (m : ℕ) → IsUpdateWrite history (21 + m) → ⊥
     none_after m w =
         let e = sym (get_append up_to_release after_it m) ∙ w.event in
         all_get IsNoWrite after_it m (RegWrite w.unit 1 w.index w.value) (tt, tt) e
@@ -157,14 +157,14 @@ valid_write : (caller index value : ℕ) → caller < 32 → index < 2 ^ 22 → 
 valid_write caller index value p q r = (head 0 caller (omega arith) p, q, r)
 
 valid_submission : (caller : ℕ) → caller < 32 → IsValidEvent (Submit 0 caller written)
-valid_submission caller p = (head 0 caller (omega arith) p, record { rrid = omega arith; shortest = omega arith; longest = omega arith; below_end = omega arith })
+valid_submission caller p = (head 0 caller (omega arith) p, record { rrid = omega arith; shortest = omega arith; longest = omega arith; below_end = omega arith }, refl)
 
 valid_judgement : (caller place : ℕ) → caller < 32 → place < 2 ^ 24 → IsValidEvent (Judge 0 caller place)
 valid_judgement caller place p q = (head 0 caller (omega arith) p, q)
 
 event_words : (es : List Event) → AllByRecursion IsValidEvent es → AllByRecursion IsEventWord (map word_of es)
 event_words [] h = tt
-event_words (e ∷ es) h = (is_event_word e h.0, event_words es h.1)
+event_words (e ∷ es) h = (word_of-is_word e h.0, event_words es h.1)
 
 all_valid : AllByRecursion IsValidEvent updated
 all_valid = (
@@ -174,34 +174,49 @@ all_valid = (
     (
       valid_write 0 1024 2 (omega arith) (omega arith) (omega arith),
       (
-        valid_write 0 2048 0x200001ff (omega arith) (omega arith) (omega arith),
+        valid_write 0 1025 0 (omega arith) (omega arith) (omega arith),
         (
-          valid_write 0 2049 0 (omega arith) (omega arith) (omega arith),
+          valid_write 0 2048 0x200001ff (omega arith) (omega arith) (omega arith),
           (
-            valid_write 0 2050 0x19 (omega arith) (omega arith) (omega arith),
+            valid_write 0 2049 0 (omega arith) (omega arith) (omega arith),
             (
-              valid_write 0 2 1 (omega arith) (omega arith) (omega arith),
+              valid_write 0 2050 0x19 (omega arith) (omega arith) (omega arith),
               (
-                valid_submission 2 (omega arith),
+                valid_write 0 2 1 (omega arith) (omega arith) (omega arith),
                 (
-                  valid_write 1 12 1 (omega arith) (omega arith) (omega arith),
+                  valid_submission 2 (omega arith),
                   (
-                    valid_judgement 2 7 (omega arith) (omega arith),
+                    valid_write 1 12 1 (omega arith) (omega arith) (omega arith),
                     (
-                      (head 0 1 (omega arith) (omega arith), omega arith),
+                      valid_judgement 2 8 (omega arith) (omega arith),
                       (
-                        valid_write 1 4 0 (omega arith) (omega arith) (omega arith),
+                        (head 0 1 (omega arith) (omega arith), omega arith),
                         (
-                          valid_write 1 512 1 (omega arith) (omega arith) (omega arith),
+                          valid_write 1 4 0 (omega arith) (omega arith) (omega arith),
                           (
-                            valid_write 1 1024 2 (omega arith) (omega arith) (omega arith),
+                            valid_write 1 512 1 (omega arith) (omega arith) (omega arith),
                             (
-                              valid_write 1 2048 0x200001ff (omega arith) (omega arith) (omega arith),
+                              valid_write 1 1024 2 (omega arith) (omega arith) (omega arith),
                               (
-                                valid_write 1 2049 0 (omega arith) (omega arith) (omega arith),
+                                valid_write 1 1025 0 (omega arith) (omega arith) (omega arith),
                                 (
-                                  valid_write 1 2050 0x1b (omega arith) (omega arith) (omega arith),
-                                  (valid_submission 3 (omega arith), (valid_write 1 12 0 (omega arith) (omega arith) (omega arith), (valid_judgement 3 17 (omega arith) (omega arith), tt))),
+                                  valid_write 1 2048 0x200001ff (omega arith) (omega arith) (omega arith),
+                                  (
+                                    valid_write 1 2049 0 (omega arith) (omega arith) (omega arith),
+                                    (
+                                      valid_write 1 2050 0x1b (omega arith) (omega arith) (omega arith),
+                                      (
+                                        valid_submission 3 (omega arith),
+                                        (
+                                          valid_write 1 12 0 (omega arith) (omega arith) (omega arith),
+                                          (
+                                            valid_judgement 3 19 (omega arith) (omega arith),
+                                            tt,
+                                          ),
+                                        ),
+                                      ),
+                                    ),
+                                  ),
                                 ),
                               ),
                             ),
@@ -226,19 +241,19 @@ order = record {
   boot = map word_of boot_events;
   others = map word_of lane_events;
   is = refl;
-  of_boot = (refl, (refl, (refl, (refl, (refl, (refl, (refl, tt)))))));
-  of_lanes = ((omega arith, omega arith), ((omega arith, omega arith), ((omega arith, omega arith), ((omega arith, omega arith), ((omega arith, omega arith), ((omega arith, omega arith), ((omega arith, omega arith), ((omega arith, omega arith), ((omega arith, omega arith), ((omega arith, omega arith), ((omega arith, omega arith), ((omega arith, omega arith), ((omega arith, omega arith), tt)))))))))))));
+  of_boot = (refl, (refl, (refl, (refl, (refl, (refl, (refl, (refl, tt))))))));
+  of_lanes = ((omega arith, omega arith), ((omega arith, omega arith), ((omega arith, omega arith), ((omega arith, omega arith), ((omega arith, omega arith), ((omega arith, omega arith), ((omega arith, omega arith), ((omega arith, omega arith), ((omega arith, omega arith), ((omega arith, omega arith), ((omega arith, omega arith), ((omega arith, omega arith), ((omega arith, omega arith), ((omega arith, omega arith), tt))))))))))))));
 }
 
-boot_record : HasRecord (logged_in (small ∷ []) words) 0 (image_section (image_of old))
+boot_record : HasRecord (logged_in (wide ∷ []) words) 0 (image_section (image_of old))
 unfolding image_of writes_of member_writes rule_entries is_single lib.Count.ones lib.Count.count_trailing_zeros
 boot_record = refl
 
-lane_records : HaveRecords (logged_in (small ∷ []) words) 1 (update_lanes old new 8 (judged ∷ judged ∷ []))
+lane_records : HaveRecords (logged_in (wide ∷ []) words) 1 (update_lanes old new 8 (judged ∷ judged ∷ []))
 unfolding image_of writes_of member_writes rule_entries is_single lib.Count.ones lib.Count.count_trailing_zeros plan_commands rewrites
 lane_records = (refl, (refl, (refl, tt)))
 
-valid_shape : IsValidShape small
+valid_shape : IsValidShape wide
 valid_shape = record {
   rrids = (omega arith, omega arith);
   domains = (omega arith, omega arith);

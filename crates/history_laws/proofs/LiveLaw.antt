@@ -7,7 +7,7 @@ use Rattle.std.proofs.lemmas.Bool.Decides.{nat_tests}
 use Rattle.event_words.specs.declared.shape.Shape.{Shape}
 use Rattle.event_words.specs.declared.access.Access.{Access}
 use Rattle.event_words.specs.declared.event.Event.{Event}
-use Rattle.event_words.specs.declared.event.Event.TheVariants.{RegWrite, RegRead, Submit, Judge}
+use Rattle.event_words.specs.declared.event.Event.TheVariants.{RegWrite, RegRead, Judge}
 use Rattle.event_words.specs.declared.reply.Reply.TheVariants as replies
 use Rattle.event_words.specs.declared.reply.Decision.{Decision}
 use Rattle.event_words.specs.declared.reply.Decision.TheVariants as decisions
@@ -29,12 +29,13 @@ use Rattle.policy_compiler.specs.Decides.{policy_decision}
 use Rattle.policy_compiler.proofs.Standing.{value_from, value_of, value_append, value_other, Stands, IsRewrite, IsTame, AreNext}
 use Rattle.policy_compiler.proofs.Decisive.{SameValues, decides_standing, image_next, image_enables}
 use Rattle.unit_core.specs.Units.{UnitState, event_step, is_stalled}
-use Rattle.unit_core.specs.Histories.{History, units_at, state_at, event_at, reply_at}
+use Rattle.unit_core.specs.Histories.{History, units_at, aims_at, state_at, event_at, reply_at}
+use Rattle.unit_core.specs.Submitted.{IsSubmission}
 use Rattle.unit_core.specs.Updates.{ReadsDrained, IsDrainedReading, IsUpdateWrite, IsRelease}
 use Rattle.unit_core.specs.Windows.{is_flagged}
 use Rattle.history_laws.specs.Verdicts.{verdict_of}
 use Rattle.history_laws.specs.Live.{kind_of_verdict, IsBeforeReading, IsAfterRelease, KeepsPolicies}
-use Rattle.history_laws.proofs.Runs.{own_state, own_at, shape_there}
+use Rattle.unit_core.proofs.Runs.{own_state, own_at, shape_there}
 use Rattle.history_laws.proofs.WindowLaw.{law_windows}
 use Rattle.history_laws.proofs.VerdictLaw.{law_verdicts}
 use Rattle.history_laws.proofs.QuietRecords.{IsNoWrite, WritesNothing}
@@ -114,7 +115,7 @@ unknown_kind r a e k =
     ∙ ap (λ b. kind_of (cond (not b) (violation 6 0xFFFF) (by_touching r a (first_touching r a)))) k
 
 answered : (h : History) (k : ℕ) (e : Event) → event_at h k ≡ Some e → (r : Reply) × (reply_at h k ≡ Some r)
-answered h k e q = ((event_step k (units_at h k) e).1, ap (option_map (λ e. (event_step k (units_at h k) e).1)) q)
+answered h k e q = ((event_step k (aims_at h k) (units_at h k) e).1, ap (option_map (λ e. (event_step k (aims_at h k) (units_at h k) e).1)) q)
 
 -- ---- a live update
 
@@ -128,12 +129,12 @@ pub record IsUpdating (old new : PolicyOf) (tables : List RegPair) (h : History)
   pub live : IsLive (image_of old).writes tables xs
   pub log : IsLogOf h xs
   pub unit : slice_get h.shapes 0 ≡ Some old.shape
-  pub accesses : (k caller : ℕ) (a : Access) → event_at h k ≡ Some (Submit 0 caller a) → IsValidAccess a
+  pub accesses : (k caller : ℕ) (a : Access) → IsSubmission h k 0 caller a → IsValidAccess a
 
 module _ (old new : PolicyOf) (tables : List RegPair) (h : History) (xs : List LoggedEvent) (u : IsUpdating old new tables h xs) where
   -- unit 0 before place k
   abbrev unit : ℕ → UnitState
-  unit k = own_state h.events 0 old.shape k
+  unit k = own_state h 0 old.shape k
 
   all_zero : (ys : List LoggedEvent) → AllByRecursion IsLoggedOnZero ys → AllByRecursion IsOnZero (map event_of ys)
   all_zero [] a = tt
@@ -148,7 +149,7 @@ module _ (old new : PolicyOf) (tables : List RegPair) (h : History) (xs : List L
       let zero : AllByRecursion IsOnZero h.events = subst (AllByRecursion IsOnZero) (sym u.log.events) (all_zero xs u.live.on_zero) in
       let upto : writes (take (length u.live.boot + m) h.events) ≡ (image_of old).writes ++ writes_in (own_before m u.live.others) =
       ap (λ es. writes (take (length u.live.boot + m) es)) u.log.events ∙ (ap writes (take_map event_of xs (length u.live.boot + m)) ∙ writes_upto (image_of old).writes tables xs u.live m) in
-      subst (λ ws. UnitStands old.shape ws (unit (length u.live.boot + m))) upto (unit_stands old.shape h.events u.good_old.shape all_next zero (length u.live.boot + m))
+      subst (λ ws. UnitStands old.shape ws (unit (length u.live.boot + m))) upto (unit_stands old.shape h u.good_old.shape all_next zero (length u.live.boot + m))
 
   -- a place past the boot section
   record IsPast (k : ℕ) (x : LoggedEvent) : Type 0 where
@@ -224,9 +225,7 @@ module _ (old new : PolicyOf) (tables : List RegPair) (h : History) (xs : List L
           let w : IsUpdateWrite h k = record { unit = unit; index = index; value = value; event = q ∙ ap (λ c. Some (RegWrite unit c index value)) one } in
           let m = rel.last k w in
           absurd (omega arith)
-      quiet k (RegRead unit caller index) q l t = tt
-      quiet k (Submit unit caller a) q l t = tt
-      quiet k (Judge unit caller place) q l t = tt
+      quiet k _ q l t = tt
 
   after_case : (m r : ℕ) (a : Access) → IsValidAccess a → IsRelease h r → r < length u.live.boot + m → kind_at m a ≡ policy_decision new a
   after_case m r a valid rel after =
@@ -254,7 +253,7 @@ module _ (old new : PolicyOf) (tables : List RegPair) (h : History) (xs : List L
       let on : value_of ((image_of old).writes ++ writes_in (own_before (k - length u.live.boot) u.live.others)) 12 ≡ 1 =
       value_append 0 (image_of old).writes (writes_in (own_before (k - length u.live.boot) u.live.others)) 12
       ∙ part_stalls _ tables (writes_in (own_before (k - length u.live.boot) u.live.others)) (writes_in (own_from (k - length u.live.boot) u.live.others)) cut some (more (k - length u.live.boot) (omega arith)) not in
-      ap (λ o. is_flagged o s) (own_at h 0 k old.shape u.unit) ∙ subst (λ j. is_stalled (unit j) s ≡ true) (sym is) (c.stalled on s known)
+      ap (λ o. is_flagged o s) (own_at h 0 k old.shape u.unit) ∙ subst (λ j. is_stalled (unit j) s ≡ true) (sym is) (c.stalled (omega arith) s known ∙ ap (λ n. n == 1) on)
     where
       -- the release is still to come
       more : (n : ℕ) → length u.live.boot + n ≤ r → writes_in (own_from n u.live.others) ≡ [] → ⊥
@@ -282,9 +281,7 @@ module _ (old new : PolicyOf) (tables : List RegPair) (h : History) (xs : List L
       quiet k (RegWrite unit caller index value) q t =
           let one : caller ≡ 1 = eqb-true caller 1 t in
           absurd (none k (record { unit = unit; index = index; value = value; event = q ∙ ap (λ c. Some (RegWrite unit c index value)) one }))
-      quiet k (RegRead unit caller index) q t = tt
-      quiet k (Submit unit caller a) q t = tt
-      quiet k (Judge unit caller place) q t = tt
+      quiet k _ q t = tt
 
   sides : (p caller q : ℕ) → event_at h p ≡ Some (Judge 0 caller q) → ((b r : ℕ) → IsDrainedReading h b → IsRelease h r → b < p → p < r → ⊥) → IsBeforeReading h p ⊎ IsAfterRelease h p
   sides p caller q event between = by (least h p)
@@ -322,7 +319,7 @@ module _ (old new : PolicyOf) (tables : List RegPair) (h : History) (xs : List L
       let logged = u.log.there p (Judge 0 caller q) (replies.Verdict verdict) event reply in
       let at = past p x logged (past_boot (image_of old).writes tables xs u.live p x logged tt) in
       let valid = u.accesses q caller d.access d.submission.event in
-      let state : d.state ≡ unit (length u.live.boot + at.number) = sym there.2 ∙ (ap (λ z. own_state h.events 0 z p) shape ∙ ap unit at.is) in
+      let state : d.state ≡ unit (length u.live.boot + at.number) = sym there.2 ∙ (ap (λ z. own_state h 0 z p) shape ∙ ap unit at.is) in
       let kind : kind_of_verdict verdict ≡ kind_at at.number d.access =
       ap kind_of_verdict d.verdict_is ∙ (verdict_kind d.state d.access (decision d.state.registers d.access) ∙ ap (λ (y : UnitState). kind_of (decision y.registers d.access)) state) in
       let between = λ (b r : ℕ) (known : d.access.rrid < old.shape.rrids) (read : IsDrainedReading h b) (rel : IsRelease h r) (l : b < p) (m : p < r).

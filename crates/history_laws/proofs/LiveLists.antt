@@ -7,7 +7,7 @@ use Rattle.std.proofs.lemmas.Bool.{cases_eq, cases_lt, eq-eqb, ne_eqb}
 use Rattle.std.proofs.lemmas.List.Elements.{filter-append}
 use Rattle.event_words.specs.declared.shape.Shape.{Shape}
 use Rattle.event_words.specs.declared.event.Event.{Event}
-use Rattle.event_words.specs.declared.event.Event.TheVariants.{RegWrite, RegRead, Submit, Judge}
+use Rattle.event_words.specs.declared.event.Event.TheVariants.{RegWrite}
 use Rattle.event_words.specs.declared.record.LoggedEvent.{LoggedEvent}
 use Rattle.event_words.specs.Word.{event_at as event_of_word}
 use Rattle.event_words.specs.Events.{caller_of}
@@ -17,11 +17,11 @@ use Rattle.event_words.specs.Records.{end_from, events_by, is_by}
 use Rattle.event_words.proofs.Runs.{bearer-word_of}
 use Rattle.policy_compiler.specs.declared.image.RegPair.{RegPair}
 use Rattle.policy_compiler.specs.Commands.{write_command}
-use Rattle.unit_core.specs.Units.{UnitState, unit_at_reset}
+use Rattle.unit_core.specs.Units.{FabricState, fabric_at_reset}
 use Rattle.unit_core.specs.Fabrics.{state_after_word, reply_to_word}
 use Rattle.unit_core.specs.Histories.{IsBoot, IsOfLane, BootComesFirst, HaveRecords, IsLegalHistory, with_event, events_of_words, logged_in}
 use Rattle.event_words.specs.Sections.{WritesNothing as IsQuietSection}
-use Rattle.history_laws.proofs.EventWords.{word_event}
+use Rattle.event_words.proofs.EventWords.{word_event}
 use Rattle.history_laws.proofs.QuietRecords.{IsNoWrite, WritesNothing, WriteNothing, quiet_record}
 use Rattle.history_laws.proofs.Writes.{append_nothing, all_parts, all_both, all_passing, all_each}
 use Rattle.history_laws.proofs.UnitStands.{IsOnZero}
@@ -29,17 +29,17 @@ use Rattle.history_laws.proofs.WriteRecords.{write_by, event_of, IsDrainRead, Is
 
 -- ---- the list's events
 
-same_events : (k : ℕ) (us : List UnitState) (words : List ℕ) → map event_of (logged_from state_after_word reply_to_word k us words) ≡ events_of_words words
-same_events k us [] = refl
-same_events k us (w ∷ ws) = by (event_of_word w) (same_events (suc k) (state_after_word us k w) ws)
+same_events : (k : ℕ) (f : FabricState) (words : List ℕ) → map event_of (logged_from state_after_word reply_to_word k f words) ≡ events_of_words words
+same_events k f [] = refl
+same_events k f (w ∷ ws) = by (event_of_word w) (same_events (suc k) (state_after_word f k w) ws)
   where
-    by : (o : Option Event) → map event_of (logged_from state_after_word reply_to_word (suc k) (state_after_word us k w) ws) ≡ events_of_words ws
-        → map event_of (logged_first k (reply_to_word us k w) o (logged_from state_after_word reply_to_word (suc k) (state_after_word us k w) ws)) ≡ with_event o (events_of_words ws)
+    by : (o : Option Event) → map event_of (logged_from state_after_word reply_to_word (suc k) (state_after_word f k w) ws) ≡ events_of_words ws
+        → map event_of (logged_first k (reply_to_word f k w) o (logged_from state_after_word reply_to_word (suc k) (state_after_word f k w) ws)) ≡ with_event o (events_of_words ws)
     by None h = h
     by (Some e) h = ap (λ es. e ∷ es) h
 
 pub events_logged : (shapes : List Shape) (words : List ℕ) → map event_of (logged_in shapes words) ≡ events_of_words words
-events_logged shapes words = same_events 0 (map unit_at_reset shapes) words
+events_logged shapes words = same_events 0 (fabric_at_reset shapes) words
 
 -- ---- callers
 
@@ -49,13 +49,13 @@ IsBy c x = caller_of x.event ≡ c
 abbrev IsByLane : ℕ → LoggedEvent → Type 0
 IsByLane lanes x = (1 ≤ caller_of x.event) × (caller_of x.event ≤ lanes)
 
-callers : (P : ℕ → Type 0) (k : ℕ) (us : List UnitState) (ws : List ℕ) → AllByRecursion IsEventWord ws → AllByRecursion (λ w. P (bearer w)) ws → AllByRecursion (λ x. P (caller_of x.event)) (logged_from state_after_word reply_to_word k us ws)
-callers P k us [] all h = tt
-callers P k us (w ∷ ws) all h =
+callers : (P : ℕ → Type 0) (k : ℕ) (f : FabricState) (ws : List ℕ) → AllByRecursion IsEventWord ws → AllByRecursion (λ w. P (bearer w)) ws → AllByRecursion (λ x. P (caller_of x.event)) (logged_from state_after_word reply_to_word k f ws)
+callers P k f [] all h = tt
+callers P k f (w ∷ ws) all h =
     let e = word_event w all.0 in
     let own : P (caller_of e.event) = subst P (ap bearer e.is ∙ bearer-word_of e.event e.valid) h.0 in
-    subst (λ o. AllByRecursion (λ (x : LoggedEvent). P (caller_of x.event)) (logged_first k (reply_to_word us k w) o (logged_from state_after_word reply_to_word (suc k) (state_after_word us k w) ws))) (sym e.back)
-    (own, callers P (suc k) (state_after_word us k w) ws all.1 h.1)
+    subst (λ o. AllByRecursion (λ (x : LoggedEvent). P (caller_of x.event)) (logged_first k (reply_to_word f k w) o (logged_from state_after_word reply_to_word (suc k) (state_after_word f k w) ws))) (sym e.back)
+    (own, callers P (suc k) (state_after_word f k w) ws all.1 h.1)
 
 record Halves (lanes : ℕ) (xs : List LoggedEvent) : Type 0 where
   pub boot : List LoggedEvent
@@ -67,18 +67,18 @@ record Halves (lanes : ℕ) (xs : List LoggedEvent) : Type 0 where
 more_halves : (lanes : ℕ) (x : LoggedEvent) (xs : List LoggedEvent) → IsBy 0 x → Halves lanes xs → Halves lanes (x ∷ xs)
 more_halves lanes x xs own h = record { boot = x ∷ h.boot; others = h.others; is = ap (λ ys. x ∷ ys) h.is; of_boot = (own, h.of_boot); of_lanes = h.of_lanes }
 
-halves : (lanes k : ℕ) (us : List UnitState) (boot others : List ℕ) → AllByRecursion IsEventWord (boot ++ others) → AllByRecursion IsBoot boot → AllByRecursion (IsOfLane lanes) others → Halves lanes (logged_from state_after_word reply_to_word k us (boot ++ others))
-halves lanes k us [] others all p q = record { boot = []; others = logged_from state_after_word reply_to_word k us others; is = refl; of_boot = tt; of_lanes = callers (λ c. (1 ≤ c) × (c ≤ lanes)) k us others all q }
-halves lanes k us (w ∷ ws) others all p q =
+halves : (lanes k : ℕ) (f : FabricState) (boot others : List ℕ) → AllByRecursion IsEventWord (boot ++ others) → AllByRecursion IsBoot boot → AllByRecursion (IsOfLane lanes) others → Halves lanes (logged_from state_after_word reply_to_word k f (boot ++ others))
+halves lanes k f [] others all p q = record { boot = []; others = logged_from state_after_word reply_to_word k f others; is = refl; of_boot = tt; of_lanes = callers (λ c. (1 ≤ c) × (c ≤ lanes)) k f others all q }
+halves lanes k f (w ∷ ws) others all p q =
     let e = word_event w all.0 in
     let own : caller_of e.event ≡ 0 = sym (ap bearer e.is ∙ bearer-word_of e.event e.valid) ∙ p.0 in
-    subst (λ o. Halves lanes (logged_first k (reply_to_word us k w) o (logged_from state_after_word reply_to_word (suc k) (state_after_word us k w) (ws ++ others)))) (sym e.back)
-    (more_halves lanes (record { place = k; event = e.event; reply = reply_to_word us k w }) _ own (halves lanes (suc k) (state_after_word us k w) ws others all.1 p.1 q))
+    subst (λ o. Halves lanes (logged_first k (reply_to_word f k w) o (logged_from state_after_word reply_to_word (suc k) (state_after_word f k w) (ws ++ others)))) (sym e.back)
+    (more_halves lanes (record { place = k; event = e.event; reply = reply_to_word f k w }) _ own (halves lanes (suc k) (state_after_word f k w) ws others all.1 p.1 q))
 
 logged_halves : (lanes : ℕ) (shapes : List Shape) (words : List ℕ) → AllByRecursion IsEventWord words → BootComesFirst lanes words → Halves lanes (logged_in shapes words)
 logged_halves lanes shapes words all b =
-    subst (λ ws. Halves lanes (logged_from state_after_word reply_to_word 0 (map unit_at_reset shapes) ws)) (sym b.is)
-    (halves lanes 0 (map unit_at_reset shapes) b.boot b.others (subst (AllByRecursion IsEventWord) b.is all) b.of_boot b.of_lanes)
+    subst (λ ws. Halves lanes (logged_from state_after_word reply_to_word 0 (fabric_at_reset shapes) ws)) (sym b.is)
+    (halves lanes 0 (fabric_at_reset shapes) b.boot b.others (subst (AllByRecursion IsEventWord) b.is all) b.of_boot b.of_lanes)
 
 -- ---- filters
 
@@ -151,9 +151,7 @@ IsLoggedOnZero x = IsOnZero x.event
 
 quiet_zero : (e : Event) → IsNoWrite e → IsOnZero e
 quiet_zero (RegWrite unit caller index value) h = absurd h
-quiet_zero (RegRead unit caller index) h = tt
-quiet_zero (Submit unit caller a) h = tt
-quiet_zero (Judge unit caller place) h = tt
+quiet_zero _ h = tt
 
 writes_zero : (c : ℕ) (ws : List RegPair) (xs : List LoggedEvent) → map event_of xs ≡ map (write_by c) ws → AllByRecursion IsLoggedOnZero xs
 writes_zero c ws [] h = tt

@@ -49,13 +49,7 @@ hit_value (replies.Value n) h =
     let z : bit_and n 1 ≡ 0 = eqb-true (bit_and n 1) 0 h in
     let low : n / 2 ^ 0 % 2 ≡ 0 = let o = one_bit n in omega arith in
     (n, refl, ap (λ b. b == 1) low)
-hit_value replies.Passed h = absurd (let n : false ≡ true = h in cc)
-hit_value replies.Queued h = absurd (let n : false ≡ true = h in cc)
-hit_value (replies.Stalled d) h = absurd (let n : false ≡ true = h in cc)
-hit_value replies.Busy h = absurd (let n : false ≡ true = h in cc)
-hit_value (replies.Verdict v) h = absurd (let n : false ≡ true = h in cc)
-hit_value replies.Held h = absurd (let n : false ≡ true = h in cc)
-hit_value replies.NoSuch h = absurd (let n : false ≡ true = h in cc)
+hit_value _ h = absurd (let n : false ≡ true = h in cc)
 
 pub idle_hits : (n : ℕ) → has_bit n 0 ≡ false → hits 1 0 (replies.Value n) ≡ true
 idle_hits n h =

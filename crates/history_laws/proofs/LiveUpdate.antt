@@ -1,36 +1,47 @@
 -- The law of a live update.
-use Rattle.std.proofs.Common.{◌≡◌, ℕ, List, [], ◌∷◌, Option, Some, None, refl, sym, subst, ◌∙◌}
+use Rattle.std.proofs.Common.{◌≡◌, ℕ, List, [], ◌∷◌, Option, Some, None, refl, sym, ap, ◌∙◌}
 use Rattle.std.specs.Prelude.{slice_get, option_and_then}
 use Rattle.std.specs.List.{AllByRecursion}
 use Rattle.event_words.specs.declared.shape.Shape.{Shape}
 use Rattle.event_words.specs.declared.access.Access.{Access}
 use Rattle.event_words.specs.declared.event.Event.TheVariants.{Submit}
 use Rattle.event_words.specs.Word.{event_at as event_of_word}
-use Rattle.event_words.specs.Valid.{IsValidAccess, IsValidEvent}
+use Rattle.event_words.specs.Valid.{IsValidAccess}
 use Rattle.event_words.specs.Runs.{IsEventWord}
 use Rattle.policy_compiler.specs.Images.{image_of}
 use Rattle.policy_compiler.specs.Commands.{image_section}
 use Rattle.update_planner.specs.Plans.{plan_commands}
 use Rattle.update_planner.specs.Gives.{section_with}
-use Rattle.unit_core.specs.Histories.{event_at, history_of, logged_in}
+use Rattle.unit_core.specs.Histories.{History, aims_at, history_of, logged_in}
+use Rattle.unit_core.specs.Submitted.{IsSubmission, taken_at}
+use Rattle.unit_core.specs.Units.{taken_as}
+use Rattle.unit_core.proofs.Steps.{taken_valid}
 use Rattle.history_laws.specs.Live.{LawLive}
-use Rattle.history_laws.proofs.WordHistories.{events_at_words, word_at_place}
+use Rattle.history_laws.proofs.WordHistories.{events_at_words, event_at_words, word_at_place}
+use Rattle.unit_core.proofs.Runs.{submit_of}
 use Rattle.history_laws.proofs.LiveLists.{live_list}
 use Rattle.history_laws.proofs.LivePlaces.{log_of}
 use Rattle.history_laws.proofs.LiveLaw.{keeps_policies}
 use Rattle.history_laws.proofs.TableRewrites.{tables_between, plan_is, rewrites_between}
 
 -- A submission is of a valid access.
-valid_access : (shapes : List Shape) (words : List ℕ) → AllByRecursion IsEventWord words → (k caller : ℕ) (a : Access) → event_at (history_of shapes words) k ≡ Some (Submit 0 caller a) → IsValidAccess a
-valid_access shapes words all k caller a q = by (slice_get words k) refl (sym (events_at_words words all k) ∙ q)
+valid_access : (shapes : List Shape) (words : List ℕ) → AllByRecursion IsEventWord words → (k caller : ℕ) (a : Access) → IsSubmission (history_of shapes words) k 0 caller a → IsValidAccess a
+valid_access shapes words all k caller a q = by (slice_get words k) refl
   where
-    by : (o : Option ℕ) → slice_get words k ≡ o → option_and_then event_of_word o ≡ Some (Submit 0 caller a) → IsValidAccess a
-    by None e h = absurd (let n : None ≡ Some (Submit 0 caller a) = h in cc)
-    by (Some w) e h =
+    h : History
+    h = history_of shapes words
+
+    taken : taken_at h k ≡ Some (Submit 0 caller a)
+    taken = submit_of h k 0 caller a q
+
+    by : (o : Option ℕ) → slice_get words k ≡ o → IsValidAccess a
+    by None e =
+        let n : None ≡ Some (Submit 0 caller a) = sym (ap (option_and_then (taken_as (aims_at h k))) (events_at_words words all k ∙ ap (option_and_then event_of_word) e)) ∙ taken in
+        absurd (cc)
+    by (Some w) e =
         let v = word_at_place words all k w e in
-        let both : Some v.event ≡ Some (Submit 0 caller a) = sym v.back ∙ h in
-        let same : v.event ≡ Submit 0 caller a = cc in
-        (subst IsValidEvent same v.valid).1
+        let t : taken_as (aims_at h k) v.event ≡ Some (Submit 0 caller a) = sym (ap (option_and_then (taken_as (aims_at h k))) (event_at_words shapes words all k w v.event e v.back)) ∙ taken in
+        taken_valid (aims_at h k) v.event (Submit 0 caller a) v.valid t
 
 pub law_live : LawLive
 law_live old new polls lanes words l =

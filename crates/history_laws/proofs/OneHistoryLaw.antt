@@ -11,16 +11,16 @@ use Rattle.event_words.specs.Word.{word_of}
 use Rattle.event_words.specs.Events.{caller_of}
 use Rattle.event_words.specs.Runs.{bearer, IsEventWord, logged_from, logged_first}
 use Rattle.event_words.specs.Records.{section_end, events_by, is_by}
-use Rattle.event_words.proofs.Runs.{bearer-word_of}
-use Rattle.unit_core.specs.Units.{UnitState, unit_at_reset}
+use Rattle.event_words.proofs.Runs.{bearer-word_of, event_at-word_of}
+use Rattle.unit_core.specs.Units.{FabricState, fabric_at_reset}
 use Rattle.unit_core.specs.Fabrics.{state_after_word, reply_to_word}
 use Rattle.unit_core.specs.Histories.{BootComesFirst, IsBoot, IsOfLane, logged_in}
-use Rattle.history_laws.proofs.EventWords.{event_at_word, word_event}
+use Rattle.event_words.proofs.EventWords.{word_event}
 use Rattle.history_laws.proofs.OneRecord.{entries, section_same}
 use Rattle.history_laws.specs.OneHistory.{LawOneHistory}
 
-abbrev boot_entries : ℕ → List UnitState → List Event → List LoggedEvent
-boot_entries k us es = entries state_after_word reply_to_word k us es
+abbrev boot_entries : ℕ → FabricState → List Event → List LoggedEvent
+boot_entries k s es = entries state_after_word reply_to_word k s es
 
 -- ---- the events of words that the boot section's caller made
 
@@ -55,28 +55,28 @@ all_boot words h =
 
 -- ---- their record
 
-logged_entries : (k : ℕ) (us : List UnitState) (es : List Event) → AllByRecursion IsValidEvent es → logged_from state_after_word reply_to_word k us (map word_of es) ≡ boot_entries k us es
-logged_entries k us [] v = refl
-logged_entries k us (e ∷ es) v =
-    ap (λ o. logged_first k (reply_to_word us k (word_of e)) o (logged_from state_after_word reply_to_word (suc k) (state_after_word us k (word_of e)) (map word_of es))) (event_at_word e v.0)
-    ∙ ap (λ xs. record { place = k; event = e; reply = reply_to_word us k (word_of e) } ∷ xs) (logged_entries (suc k) (state_after_word us k (word_of e)) es v.1)
+logged_entries : (k : ℕ) (s : FabricState) (es : List Event) → AllByRecursion IsValidEvent es → logged_from state_after_word reply_to_word k s (map word_of es) ≡ boot_entries k s es
+logged_entries k s [] v = refl
+logged_entries k s (e ∷ es) v =
+    ap (λ o. logged_first k (reply_to_word s k (word_of e)) o (logged_from state_after_word reply_to_word (suc k) (state_after_word s k (word_of e)) (map word_of es))) (event_at-word_of e v.0)
+    ∙ ap (λ xs. record { place = k; event = e; reply = reply_to_word s k (word_of e) } ∷ xs) (logged_entries (suc k) (state_after_word s k (word_of e)) es v.1)
 
-own_entries : (k : ℕ) (us : List UnitState) (es : List Event) → AllByRecursion (λ e. caller_of e ≡ 0) es → events_by 0 (boot_entries k us es) ≡ boot_entries k us es
-own_entries k us [] h = refl
-own_entries k us (e ∷ es) h =
-    let x : LoggedEvent = record { place = k; event = e; reply = reply_to_word us k (word_of e) } in
-    let rest = boot_entries (suc k) (state_after_word us k (word_of e)) es in
+own_entries : (k : ℕ) (s : FabricState) (es : List Event) → AllByRecursion (λ e. caller_of e ≡ 0) es → events_by 0 (boot_entries k s es) ≡ boot_entries k s es
+own_entries k s [] h = refl
+own_entries k s (e ∷ es) h =
+    let x : LoggedEvent = record { place = k; event = e; reply = reply_to_word s k (word_of e) } in
+    let rest = boot_entries (suc k) (state_after_word s k (word_of e)) es in
     ap (λ b. cond b (x ∷ filter (is_by 0) rest) (filter (is_by 0) rest)) (eq-eqb (caller_of e) 0 h.0)
-    ∙ ap (λ xs. x ∷ xs) (own_entries (suc k) (state_after_word us k (word_of e)) es h.1)
+    ∙ ap (λ xs. x ∷ xs) (own_entries (suc k) (state_after_word s k (word_of e)) es h.1)
 
 some_of : {A : Type 0} (o : Option A) → IsSome o → (a : A) × (o ≡ Some a)
 some_of None h = absurd (let n : false ≡ true = h in cc)
 some_of (Some a) h = (a, refl)
 
-record_of : (shapes : List Shape) (words : List ℕ) (b : BootEvents words) → events_by 0 (logged_in shapes words) ≡ boot_entries 0 (map unit_at_reset shapes) b.events
+record_of : (shapes : List Shape) (words : List ℕ) (b : BootEvents words) → events_by 0 (logged_in shapes words) ≡ boot_entries 0 (fabric_at_reset shapes) b.events
 record_of shapes words b =
-    ap (λ ws. events_by 0 (logged_in shapes ws)) b.is ∙ ap (events_by 0) (logged_entries 0 (map unit_at_reset shapes) b.events b.valid)
-    ∙ own_entries 0 (map unit_at_reset shapes) b.events b.own
+    ap (λ ws. events_by 0 (logged_in shapes ws)) b.is ∙ ap (events_by 0) (logged_entries 0 (fabric_at_reset shapes) b.events b.valid)
+    ∙ own_entries 0 (fabric_at_reset shapes) b.events b.own
 
 pub law_one_history : LawOneHistory
 law_one_history shapes boot v w p q =
@@ -86,4 +86,4 @@ law_one_history shapes boot v w p q =
     let right = some_of (section_end 0 boot (events_by 0 (logged_in shapes w))) q.boot_record in
     let h = sym (ap (section_end 0 boot) (record_of shapes v a)) ∙ left.1 in
     let g = sym (ap (section_end 0 boot) (record_of shapes w b)) ∙ right.1 in
-    a.is ∙ section_same state_after_word reply_to_word 0 boot.commands [] 0 (map unit_at_reset shapes) a.events b.events left.0 right.0 h g ∙ sym b.is
+    a.is ∙ section_same state_after_word reply_to_word 0 boot.commands [] 0 (fabric_at_reset shapes) a.events b.events left.0 right.0 h g ∙ sym b.is

@@ -14,7 +14,8 @@ use Rattle.event_words.specs.declared.section.Command.TheVariants.{Write, Read, 
 use Rattle.event_words.specs.Word.{word_of, kind_code}
 use Rattle.event_words.specs.Events.{same_event, same_access}
 use Rattle.event_words.specs.Sections.{stage_units}
-use Rattle.event_words.specs.Records.{OpenSlot, first_as, judgements, polls, is_held, is_taken, hits, opened_slot, closed_by, one_piece, submit_piece, settled, settle_piece, until_piece, next_requester, stage_following, stage_judged, stage_piece, through_stages, through_piece, nothing_left, after_piece, end_from, slot_of}
+use Rattle.event_words.specs.Valid.{is_narrow}
+use Rattle.event_words.specs.Records.{OpenSlot, first_as, judgements, polls, is_held, is_taken, is_aimed, hits, wide_event, second_as, submission_as, opened_slot, closed_by, one_piece, submit_piece, settled, settle_piece, until_piece, next_requester, stage_following, stage_judged, stage_piece, aimed_piece, one_stage, through_stages, through_piece, nothing_left, after_piece, end_from, slot_of}
 
 -- ---- the same event has the same word
 
@@ -60,6 +61,22 @@ same_word (events.Judge u c p) (events.Judge u' c' p') h =
     let p1 : u ≡ u' = eqb-true u u' one.0 in
     let q : c ≡ c' = eqb-true c c' two.0 in
     let r : p ≡ p' = eqb-true p p' two.1 in
+    cc
+same_word (events.Aim c a) (events.Aim c' a') h =
+    let one = and_both (eqb c c') _ h in
+    let p : c ≡ c' = eqb-true c c' one.0 in
+    let q : a ≡ a' = eqb-true a a' one.1 in
+    cc
+same_word (events.Wide u c s k n) (events.Wide u' c' s' k' n') h =
+    let one = and_both (eqb u u') _ h in
+    let two = and_both (eqb c c') _ one.1 in
+    let three = and_both (eqb s s') _ two.1 in
+    let four = and_both (eqb (kind_code k) (kind_code k')) _ three.1 in
+    let p : u ≡ u' = eqb-true u u' one.0 in
+    let q : c ≡ c' = eqb-true c c' two.0 in
+    let r : s ≡ s' = eqb-true s s' three.0 in
+    let t : kind_code k ≡ kind_code k' = eqb-true (kind_code k) (kind_code k') four.0 in
+    let l : n ≡ n' = eqb-true n n' four.1 in
     cc
 same_word _ _ h = absurd (let n : false ≡ true = h in cc)
 
@@ -109,6 +126,16 @@ module _ {S : Type 0} (after : S → ℕ → ℕ → S) (reply : S → ℕ → �
       more_same x y v w words (go (reply s k (word_of x)) x y (after s k (word_of x)) v w left aligned))
       (λ q. nothing C b none (chosen C (same_event e y) false _ None (Some b) q g)))
       (λ p. nothing C a none (chosen C (same_event e x) false _ None (Some a) p h))
+
+  -- ---- a submission of one event or two
+
+  submission_same : (C : Option (LoggedEvent × List LoggedEvent) → Option SectionEnd) → C None ≡ None → (unit caller : ℕ) (access : Access) (k : ℕ) (s : S) (v w : List Event) (a b : SectionEnd)
+      → C (submission_as unit caller access (entries k s v)) ≡ Some a → C (submission_as unit caller access (entries k s w)) ≡ Some b → ((j : ℕ) → AfterOne C a b j) → Same v w
+  submission_same C none unit caller access k s v w a b h g go =
+      by_bool (is_narrow access)
+      (λ t. one_same C none (events.Submit unit caller access) k s v w a b (chosen C (is_narrow access) true _ _ (Some a) t h) (chosen C (is_narrow access) true _ _ (Some b) t g) (go k))
+      (λ t. one_same (λ o. C (second_as (wide_event unit caller access) o)) none (events.Aim caller access.addr) k s v w a b (chosen C (is_narrow access) false _ _ (Some a) t h) (chosen C (is_narrow access) false _ _ (Some b) t g)
+      (λ r x y s' v' w' p q. one_same C none (wide_event unit caller access) (suc k) s' v' w' a b p q (go (suc k))))
 
   -- ---- judgements
 
@@ -165,21 +192,41 @@ module _ {S : Type 0} (after : S → ℕ → ℕ → S) (reply : S → ℕ → �
   abbrev AfterStages : (Option (List LoggedEvent) → Option SectionEnd) → SectionEnd → SectionEnd → Type 0
   AfterStages C a b = (k : ℕ) (s : S) (v w : List Event) → C (Some (entries k s v)) ≡ Some a → C (Some (entries k s w)) ≡ Some b → Same v w
 
+  -- what comes after a stage, from wherever on
+  abbrev IsGoingOn : (Option (List LoggedEvent) → Option SectionEnd) → (ℕ → List LoggedEvent → Option (List LoggedEvent)) → SectionEnd → SectionEnd → Type 0
+  IsGoingOn C more a b = (next k : ℕ) (s : S) (v w : List Event) → C (more next (entries k s v)) ≡ Some a → C (more next (entries k s w)) ≡ Some b → Same v w
+
   following_same : (C : Option (List LoggedEvent) → Option SectionEnd) (more : ℕ → List LoggedEvent → Option (List LoggedEvent)) (a b : SectionEnd)
-      → ((next k : ℕ) (s : S) (v w : List Event) → C (more next (entries k s v)) ≡ Some a → C (more next (entries k s w)) ≡ Some b → Same v w) → AfterStages C a b
+      → IsGoingOn C more a b → AfterStages C a b
       → (o : Option ℕ) (k : ℕ) (s : S) (v w : List Event) → C (stage_following more o (entries k s v)) ≡ Some a → C (stage_following more o (entries k s w)) ≡ Some b → Same v w
   following_same C more a b each go None k s v w h g = go k s v w h g
   following_same C more a b each go (Some next) k s v w h g = each next k s v w h g
+
+  stage_same : (C : Option (List LoggedEvent) → Option SectionEnd) → C None ≡ None → (caller max unit : ℕ) (more : ℕ → List LoggedEvent → Option (List LoggedEvent)) (e : Event) (k : ℕ) (s : S) (v w : List Event) (a b : SectionEnd)
+      → C (stage_piece caller max unit more (first_as e (entries k s v))) ≡ Some a → C (stage_piece caller max unit more (first_as e (entries k s w))) ≡ Some b → IsGoingOn C more a b → AfterStages C a b → Same v w
+  stage_same C none caller max unit more e k s v w a b h g each go =
+      one_same (λ o. C (stage_piece caller max unit more o)) none e k s v w a b h g
+      (λ r x y s' v' w' p q. by_bool (is_taken r)
+      (λ t. judged_same (λ o. C (stage_judged more o)) none max (events.Judge unit caller k) (suc k) s' v' w' a b (chosen C _ true _ _ (Some a) t p) (chosen C _ true _ _ (Some b) t q)
+      (λ r2 k2 s2 v2 w2 p2 q2. following_same C more a b each go (next_requester r2) k2 s2 v2 w2 p2 q2))
+      (λ t. go (suc k) s' v' w' (chosen C _ false _ _ (Some a) t p) (chosen C _ false _ _ (Some b) t q)))
+
+  one_stage_same : (C : Option (List LoggedEvent) → Option SectionEnd) → C None ≡ None → (caller max unit : ℕ) (access : Access) (more : ℕ → List LoggedEvent → Option (List LoggedEvent)) (k : ℕ) (s : S) (v w : List Event) (a b : SectionEnd)
+      → C (one_stage caller max unit access more (entries k s v)) ≡ Some a → C (one_stage caller max unit access more (entries k s w)) ≡ Some b → IsGoingOn C more a b → AfterStages C a b → Same v w
+  one_stage_same C none caller max unit access more k s v w a b h g each go =
+      by_bool (is_narrow access)
+      (λ t. stage_same C none caller max unit more (events.Submit unit caller access) k s v w a b (chosen C (is_narrow access) true _ _ (Some a) t h) (chosen C (is_narrow access) true _ _ (Some b) t g) each go)
+      (λ t. one_same (λ o. C (aimed_piece caller max unit more (wide_event unit caller access) o)) none (events.Aim caller access.addr) k s v w a b (chosen C (is_narrow access) false _ _ (Some a) t h) (chosen C (is_narrow access) false _ _ (Some b) t g)
+      (λ r x y s' v' w' p q. by_bool (is_aimed r)
+      (λ u. stage_same C none caller max unit more (wide_event unit caller access) (suc k) s' v' w' a b (chosen C _ true _ _ (Some a) u p) (chosen C _ true _ _ (Some b) u q) each go)
+      (λ u. go (suc k) s' v' w' (chosen C _ false _ _ (Some a) u p) (chosen C _ false _ _ (Some b) u q))))
 
   stages_same : (C : Option (List LoggedEvent) → Option SectionEnd) → C None ≡ None → (caller max : ℕ) (access : Access) (us : List ℕ) (rrid k : ℕ) (s : S) (v w : List Event) (a b : SectionEnd)
       → C (through_stages caller max access us rrid (entries k s v)) ≡ Some a → C (through_stages caller max access us rrid (entries k s w)) ≡ Some b → AfterStages C a b → Same v w
   stages_same C none caller max access [] rrid k s v w a b h g go = go k s v w h g
   stages_same C none caller max access (u ∷ us) rrid k s v w a b h g go =
-      one_same (λ o. C (stage_piece caller max u (through_stages caller max access us) o)) none (events.Submit u caller (record access { rrid = rrid })) k s v w a b h g
-      (λ r x y s' v' w' p q. by_bool (is_taken r)
-      (λ t. judged_same (λ o. C (stage_judged (through_stages caller max access us) o)) none max (events.Judge u caller k) (suc k) s' v' w' a b (chosen C _ true _ _ (Some a) t p) (chosen C _ true _ _ (Some b) t q)
-      (λ r2 k2 s2 v2 w2 p2 q2. following_same C (through_stages caller max access us) a b (λ next k3 s3 v3 w3 p3 q3. stages_same C none caller max access us next k3 s3 v3 w3 a b p3 q3 go) go (next_requester r2) k2 s2 v2 w2 p2 q2))
-      (λ t. go (suc k) s' v' w' (chosen C _ false _ _ (Some a) t p) (chosen C _ false _ _ (Some b) t q)))
+      one_stage_same C none caller max u (record access { rrid = rrid }) (through_stages caller max access us) k s v w a b h g
+      (λ next k3 s3 v3 w3 p3 q3. stages_same C none caller max access us next k3 s3 v3 w3 a b p3 q3 go) go
 
   -- ---- a section
 
@@ -213,8 +260,8 @@ module _ {S : Type 0} (after : S → ℕ → ℕ → S) (reply : S → ℕ → �
       one_same (λ o. after_piece (end_from caller cs) (one_piece slots o)) refl (events.RegRead unit caller index) k s v w a b h g
       (λ r x y s' v' w' p q. section_same caller cs slots (suc k) s' v' w' a b p q)
   section_same caller (Submit unit access slot ∷ cs) slots k s v w a b h g =
-      one_same (λ o. after_piece (end_from caller cs) (submit_piece slots unit o)) refl (events.Submit unit caller access) k s v w a b h g
-      (λ r x y s' v' w' p q. section_same caller cs (slots ++ opened_slot unit (record { place = k; event = x; reply = r }) ∷ []) (suc k) s' v' w' a b p q)
+      submission_same (λ o. after_piece (end_from caller cs) (submit_piece slots unit o)) refl unit caller access k s v w a b h g
+      (λ j r x y s' v' w' p q. section_same caller cs (slots ++ opened_slot unit (record { place = j; event = x; reply = r }) ∷ []) (suc j) s' v' w' a b p q)
   section_same caller (Judge slot ∷ cs) slots k s v w a b h g = slot_same caller cs (section_same caller cs) 1 slots slot (slot_of slots slot) k s v w a b h g
   section_same caller (Settle slot max ∷ cs) slots k s v w a b h g = slot_same caller cs (section_same caller cs) max slots slot (slot_of slots slot) k s v w a b h g
   section_same caller (Until unit index mask value max ∷ cs) slots k s v w a b h g =

@@ -6,7 +6,7 @@ use Rattle.std.proofs.lemmas.Bool.{ne_eqb}
 use Rattle.std.proofs.lemmas.List.{take-append-drop}
 use Rattle.std.proofs.lemmas.List.Elements.{filter-append}
 use Rattle.event_words.specs.declared.event.Event.{Event}
-use Rattle.event_words.specs.declared.event.Event.TheVariants.{RegWrite, RegRead, Submit, Judge}
+use Rattle.event_words.specs.declared.event.Event.TheVariants.{RegWrite, RegRead}
 use Rattle.event_words.specs.declared.record.LoggedEvent.{LoggedEvent}
 use Rattle.event_words.specs.Records.{hits, events_by, is_by}
 use Rattle.policy_compiler.specs.declared.image.RegPair.{RegPair}
@@ -33,9 +33,7 @@ writes_by c (w ∷ ws) = ap (λ vs. w ∷ vs) (writes_by c ws)
 
 pub silent : (e : Event) → IsNoWrite e → write_of e ≡ []
 silent (RegWrite unit caller index value) h = absurd h
-silent (RegRead unit caller index) h = refl
-silent (Submit unit caller a) h = refl
-silent (Judge unit caller place) h = refl
+silent _ h = refl
 
 -- only caller 1 writes
 pub of_one : (xs : List LoggedEvent) → AllByRecursion (λ x. is_by 1 x ≡ false → WritesNothing x) xs → writes_in xs ≡ writes_in (events_by 1 xs)

@@ -19,10 +19,11 @@ use Rattle.unit_core.specs.declared.Submission.{Submission}
 use Rattle.unit_core.specs.Places.{IsHeldBack}
 use Rattle.unit_core.proofs.HeldBack.{all_released}
 use Rattle.unit_core.specs.Units.{UnitState, unit_step, after_write, closed, opened, is_stalled, queue_length}
+use Rattle.unit_core.specs.Histories.{History}
 use Rattle.history_laws.specs.Queues.{HasQueueInOrder, HasStalledRequester, LawQueued}
-use Rattle.history_laws.proofs.Runs.{own_state, of_each, own_induction}
-use Rattle.history_laws.proofs.Registers.{recorded_cases}
-use Rattle.history_laws.proofs.Items.{submit_cases, judge_cases, all_append, all_of, all_without, count_append, count_without, count_released}
+use Rattle.unit_core.proofs.Runs.{own_state, of_each, own_induction}
+use Rattle.unit_core.proofs.Registers.{recorded_cases}
+use Rattle.unit_core.proofs.Items.{submit_cases, judge_cases, all_append, all_of, all_without, count_append, count_without, count_released}
 
 -- ---- the shape stays
 
@@ -104,15 +105,16 @@ step_sound k x (Submit unit caller a) h =
 step_sound k x (Judge unit caller place) h =
     judge_cases (λ r. IsSound r.0) x place caller (λ e. h) (λ item e f. h) (λ item e f v. closed_sound x place caller h)
     (λ item e f d v. recorded_sound (closed place caller x) item.access d (closed_sound x place caller h))
+step_sound k x _ h = h
 
-pub own_sound : (es : List Event) (u : ℕ) (shape : Shape) (k : ℕ) → IsSound (own_state es u shape k)
-own_sound es u shape k =
-    own_induction (λ k x. IsSound x) es u shape (record { flags = length-replicate shape.rrids false; held = tt; fits = omega arith }) (λ k x h. h) (λ k x e q t h. step_sound k x e h) k
+pub own_sound : (h : History) (u : ℕ) (shape : Shape) (k : ℕ) → IsSound (own_state h u shape k)
+own_sound h u shape k =
+    own_induction (λ k x. IsSound x) h u shape (record { flags = length-replicate shape.rrids false; held = tt; fits = omega arith }) (λ k x s. s) (λ k x e q t s. step_sound k x e s) k
 
 pub law_queued : LawQueued
 law_queued h k u = of_each HasQueueInOrder h u k (λ shape e.
-    let x = own_state h.events u shape k in
-    let s = own_sound h.events u shape k in
+    let x = own_state h u shape k in
+    let s = own_sound h u shape k in
     record {
       stalled = All-from_recursion (λ (item : Submission). item.queued ≡ true → HasStalledRequester x item) x.submissions (all_of (IsHeldBack x.flags) (λ (item : Submission). item.queued ≡ true → HasStalledRequester x item) x.submissions (λ item held q. (lt-ltb item.access.rrid x.registers.shape.rrids (subst (λ n. item.access.rrid < n) s.flags (flagged_below x.flags item.access.rrid (held q))), held q)) s.held);
       fits = s.fits;

@@ -5,7 +5,7 @@ use Rattle.std.proofs.lemmas.Bool.{cond_both, cond-true, cond-false, eqb-true, e
 use Rattle.std.proofs.lemmas.List.Elements.{filter-append}
 use Rattle.event_words.specs.declared.access.Access.{Access}
 use Rattle.event_words.specs.declared.event.Event.{Event}
-use Rattle.event_words.specs.declared.event.Event.TheVariants.{RegWrite, RegRead, Submit, Judge}
+use Rattle.event_words.specs.declared.event.Event.TheVariants.{RegWrite, RegRead, Submit, Judge, Aim, Wide}
 use Rattle.event_words.specs.declared.reply.Reply.{Reply}
 use Rattle.event_words.specs.declared.reply.Reply.TheVariants as replies
 use Rattle.event_words.specs.declared.reply.Verdict.{Verdict}
@@ -15,7 +15,7 @@ use Rattle.unit_core.specs.Submissions.{released_item, is_item, without_item}
 use Rattle.event_words.specs.Events.{unit_of}
 use Rattle.unit_core.specs.Units.{UnitState, unit_step, judge_step}
 use Rattle.history_laws.specs.Tickets.{is_at, StandsOnce}
-use Rattle.history_laws.proofs.Items.{submit_cases, judge_cases, released_cases}
+use Rattle.unit_core.proofs.Items.{submit_cases, judge_cases, released_cases}
 
 -- ---- the items of one place
 
@@ -142,7 +142,7 @@ released_once p c a flags xs queued h =
     released_cases (λ y. at p (map (released_item flags) xs) ≡ y ∷ [] → (now : Bool) × (at p (map (released_item flags) xs) ≡ record { place = p; caller = c; access = a; queued = now } ∷ [])) flags item
     (λ e q. (queued, q)) (λ e q. (false, q)) is
 
-pub ticket_step : (p c u k : ℕ) (a : Access) (x : UnitState) (e : Event) → p < k → unit_of e ≡ u → StandsOnce p c a x
+pub ticket_step : (p c u k : ℕ) (a : Access) (x : UnitState) (e : Event) → p < k → unit_of e ≡ Some u → StandsOnce p c a x
     → Stays p c u a e (unit_step k x e) ⊎ Closes p c u a e (unit_step k x e)
 ticket_step p c u k a x (RegWrite unit caller index value) l t h =
     inl (record {
@@ -161,11 +161,15 @@ ticket_step p c u k a x (Submit unit caller access) l t h =
     (inl (record { stands = h; held = no _ }))
 ticket_step p c u k a x (Judge unit caller place) l t h = ⊎_elim
     (λ (same : place ≡ p). ⊎_elim
-    (λ (mine : caller ≡ c). subst (λ d. Outcome p c u a (Judge unit d place) (judge_step x place d)) (sym mine) (subst (λ q. Outcome p c u a (Judge unit c q) (judge_step x q c)) (sym same) (judged_own p c u a x unit t h)))
+    (λ (mine : caller ≡ c). subst (λ d. Outcome p c u a (Judge unit d place) (judge_step x place d)) (sym mine) (subst (λ q. Outcome p c u a (Judge unit c q) (judge_step x q c)) (sym same) (judged_own p c u a x unit (let n : unit ≡ u = cc in n) h)))
     (λ (ne : caller ≡ c → ⊥). subst (λ q. Outcome p c u a (Judge unit caller q) (judge_step x q caller)) (sym same) (judged_by_other p c u a x unit caller ne h))
     (cases_eq caller c))
     (λ (ne : place ≡ p → ⊥). judged_elsewhere p c u a x unit caller place ne h)
     (cases_eq place p)
+ticket_step p c u k a x (Aim caller addr) l t h =
+    inl (record { stands = h; held = λ q. absurd (let n : Aim caller addr ≡ Judge u c p = q in cc) })
+ticket_step p c u k a x (Wide unit caller rrid kind len) l t h =
+    inl (record { stands = h; held = λ q. absurd (let n : Wide unit caller rrid kind len ≡ Judge u c p = q in cc) })
 
 pub record StaysGone (p c u : ℕ) (e : Event) (r : UnitState × Reply) : Type 0 where
   pub gone : at p r.0.submissions ≡ []
@@ -202,3 +206,6 @@ gone_step p c u k x (Judge unit caller place) l h = ⊎_elim
     (λ item e f v. record { gone = at_without p place caller x.submissions ne ∙ h; none = no _ })
     (λ item e f d v. record { gone = at_without p place caller x.submissions ne ∙ h; none = no _ }))
     (cases_eq place p)
+gone_step p c u k x (Aim caller addr) l h = record { gone = h; none = λ q. absurd (let n : Aim caller addr ≡ Judge u c p = q in cc) }
+gone_step p c u k x (Wide unit caller rrid kind len) l h =
+    record { gone = h; none = λ q. absurd (let n : Wide unit caller rrid kind len ≡ Judge u c p = q in cc) }

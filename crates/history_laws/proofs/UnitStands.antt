@@ -1,36 +1,43 @@
 -- What the register writes of a history leave in unit 0, whatever stands between them.
-use Rattle.std.proofs.Common.{◌≡◌, ℕ, zero, suc, ◌+◌, ◌<◌, ◌≤◌, ◌++◌, ◌==◌, ◌&&◌, inl, inr, Bool, true, false, List, [], ◌∷◌, Option, Some, None, length, take, drop, append_assoc, set, refl, sym, ap, subst, ◌∙◌, arith, ⊎_elim}
-use Rattle.std.specs.Prelude.{slice_get}
+use Rattle.std.proofs.Common.{◌≡◌, ℕ, zero, suc, ◌+◌, ◌-◌, ◌/◌, ◌%◌, ◌^◌, ◌<◌, ◌≤◌, ◌++◌, ltb, ◌==◌, ◌&&◌, inl, inr, Bool, true, false, List, [], ◌∷◌, Option, Some, None, length, take, drop, append_assoc, set, refl, sym, ap, subst, ◌∙◌, arith, ⊎_elim}
+use Rattle.std.specs.Prelude.{slice_get, nat_le, option_and_then}
 use Rattle.std.specs.List.{AllByRecursion}
+use Rattle.std.specs.Int.{bit_at}
 use Rattle.std.proofs.lemmas.Nat.Bits.{bit_at-zero, bit_at-suc}
-use Rattle.std.proofs.lemmas.List.{length-set}
+use Rattle.std.proofs.lemmas.List.{length-set, get_or-replicate}
 use Rattle.std.proofs.lemmas.List.FromFn.{get_or-map-range_with_len}
-use Rattle.std.proofs.lemmas.Bool.{cases_eq, cond-true, cond-false, eq-eqb, ne_eqb}
+use Rattle.std.proofs.lemmas.Bool.{cases_eq, cond-true, cond-false, cond_both, eq-eqb, ne_eqb}
 use Rattle.event_words.specs.declared.shape.Shape.{Shape}
 use Rattle.event_words.specs.declared.access.Access.{Access}
 use Rattle.event_words.specs.declared.reply.Denial.{Denial}
 use Rattle.event_words.specs.declared.event.Event.{Event}
-use Rattle.event_words.specs.declared.event.Event.TheVariants.{RegWrite, RegRead, Submit, Judge}
-use Rattle.event_words.specs.Registers.{Registers, has_bit}
+use Rattle.event_words.specs.declared.event.Event.TheVariants.{RegWrite, RegRead, Submit, Judge, Aim, Wide}
+use Rattle.event_words.specs.Registers.{Registers, word_at, has_bit, has_pair_bit, register_at, reset_word, index_count}
+use Rattle.event_words.specs.Guards.{guarded_bits}
 use Rattle.event_words.specs.Events.{unit_of}
 use Rattle.event_words.specs.Domains.{is_associated}
 use Rattle.event_words.specs.Denials.{recorded}
-use Rattle.event_words.specs.Stalls.{flag_of, is_selected, differs, flags_after, flags_after_mdstall, flags_after_rridscp}
+use Rattle.event_words.specs.Stalls.{flag_of, is_selected, is_selected_domain, differs, flags_after, flags_after_mdstall, flags_after_rridscp}
 use Rattle.policy_compiler.specs.declared.image.RegPair.{RegPair}
 use Rattle.policy_compiler.specs.Policies.{IsPolicyShape}
 use Rattle.policy_compiler.specs.Images.{pair}
 use Rattle.policy_compiler.proofs.Finds.{any_none}
 use Rattle.policy_compiler.proofs.Standing.{value_of, value_same, value_other, Stands, IsNext, AreNext, stands_same, stands_step, stands_reset}
-use Rattle.unit_core.specs.Units.{UnitState, unit_step, is_stalled, after_write}
-use Rattle.history_laws.proofs.Items.{submit_cases, judge_cases}
-use Rattle.history_laws.proofs.Registers.{recorded_cases, recorded_other}
-use Rattle.history_laws.proofs.Runs.{own_state, own_next}
+use Rattle.unit_core.proofs.KeptBits.{other_stays}
+use Rattle.unit_core.specs.Units.{UnitState, unit_step, is_stalled, after_write, taken_as, wide_access}
+use Rattle.unit_core.specs.Histories.{History, aims_at, event_at}
+use Rattle.unit_core.specs.Submitted.{taken_at}
+use Rattle.unit_core.proofs.Items.{submit_cases, judge_cases}
+use Rattle.unit_core.proofs.Registers.{recorded_cases, recorded_outside}
+use Rattle.unit_core.proofs.Runs.{own_state, own_next, as_it_is}
 use Rattle.history_laws.proofs.Writes.{write_of, writes, writes_next, writes_past, writes_cut, append_nothing, all_get}
 
--- Its registers stand after these writes, and where the last of MDSTALL is 1, each requester is stalled.
+-- Its registers stand after these writes, and MDSTALLH, which none of them writes, selects no domain. So where
+-- the last write of MDSTALL is 1 each known requester is stalled, and where it is 0, as before any, none is.
 pub record UnitStands (h : Shape) (ps : List RegPair) (x : UnitState) : Type 0 where
   pub registers : Stands h ps x.registers
-  pub stalled : value_of ps 12 ≡ 1 → (s : ℕ) → s < h.rrids → is_stalled x s ≡ true
+  pub unselected : word_at x.registers 13 ≡ 0
+  pub stalled : value_of ps 12 < 2 → (s : ℕ) → s < h.rrids → is_stalled x s ≡ (value_of ps 12 == 1)
 
 -- ---- captures
 
@@ -41,63 +48,87 @@ stands_recorded h ps r a d c =
     (λ info addr addrh id.
     length-set (set (set (set r.words 25 info) 26 addr) 27 addrh) 28 id ∙ (length-set (set (set r.words 25 info) 26 addr) 27 addrh ∙ (length-set (set r.words 25 info) 26 addr ∙ length-set r.words 25 info))) refl in
     stands_same h ps r (recorded r a d) shape len
-    (λ i out. let apart : (j : ℕ) → 20 ≤ j → j < 512 → i ≡ j → ⊥ = λ j l u e. ⊎_elim (λ (low : i < 20). absurd (omega arith)) (λ (high : 512 ≤ i). absurd (omega arith)) out in
-    recorded_other r a d i (apart 25 (omega arith) (omega arith)) (apart 26 (omega arith) (omega arith)) (apart 27 (omega arith) (omega arith)) (apart 28 (omega arith) (omega arith))) c
+    (λ i out. recorded_outside r a d i (⊎_elim (λ (low : i < 20). inl (omega arith)) (λ (high : 512 ≤ i). inr (omega arith)) out)) c
 
--- ---- the stall of all requesters
+-- ---- a write of MDSTALL that selects no domain
 
-high_bit : (m : ℕ) → has_bit 1 (m + 1) ≡ false
-high_bit m =
+no_bit : (v m : ℕ) → v < 2 → has_bit v (m + 1) ≡ false
+no_bit v m small =
     let e : m + 1 ≡ suc m = omega arith in
-    ap (λ i. has_bit 1 i) e ∙ (ap (λ b. b == 1) (bit_at-suc 1 m) ∙ ap (λ b. b == 1) (bit_at-zero m))
+    let z : v / 2 ≡ 0 = omega arith in
+    ap (λ b. b == 1) (ap (bit_at v) e ∙ (bit_at-suc v m ∙ (ap (λ n. bit_at n m) z ∙ bit_at-zero m)))
 
-none_selected : (r : Registers) (s : ℕ) → is_selected r 1 s ≡ false
-none_selected r s = any_none (λ m. has_bit 1 (m + 1) && is_associated r s m) 0 r.shape.domains (λ m l u. ap (λ b. b && is_associated r s m) (high_bit m))
+no_pair_bit : (v high m : ℕ) → v < 2 → high ≡ 0 → has_pair_bit v high (m + 1) ≡ false
+no_pair_bit v high m small z =
+    cond_both (ltb (m + 1) 32) (has_bit v (m + 1)) (has_bit high (m + 1 - 32)) (λ b. b ≡ false) (λ low. no_bit v m small)
+    (λ up. ap (λ b. b == 1) (ap (λ n. bit_at n (m + 1 - 32)) z ∙ bit_at-zero (m + 1 - 32)))
 
-all_stalled : (r : Registers) (s : ℕ) → s < r.shape.rrids → flag_of (flags_after_mdstall r 1) s ≡ true
-all_stalled r s l =
-    get_or-map-range_with_len (λ s. differs (has_bit 1 0) (is_selected r 1 s)) 0 r.shape.rrids s s false l (omega arith)
-    ∙ ap (differs (has_bit 1 0)) (none_selected r s)
+none_selected : (r : Registers) (v s : ℕ) → v < 2 → word_at r 13 ≡ 0 → is_selected r v s ≡ false
+none_selected r v s small z =
+    any_none (λ m. is_selected_domain r v m && is_associated r s m) 0 r.shape.domains (λ m l u. ap (λ b. b && is_associated r s m) (no_pair_bit v (word_at r 13) m small z))
+
+differs_none : (b : Bool) → differs b false ≡ b
+differs_none true = refl
+differs_none false = refl
+
+-- 1 stalls every known requester, and 0 none.
+stalls_all : (r : Registers) (v s : ℕ) → v < 2 → word_at r 13 ≡ 0 → s < r.shape.rrids → flag_of (flags_after_mdstall r v) s ≡ (v == 1)
+stalls_all r v s small z l =
+    let low : v / 2 ^ 0 % 2 ≡ v = omega arith in
+    get_or-map-range_with_len (λ s. differs (has_bit v 0) (is_selected r v s)) 0 r.shape.rrids s s false l (omega arith)
+    ∙ (ap (differs (has_bit v 0)) (none_selected r v s small z) ∙ (differs_none (has_bit v 0) ∙ ap (λ n. n == 1) low))
 
 -- ---- one step
 
-not_select : (h : Shape) (ps : List RegPair) (w : RegPair) → IsNext h ps w → w.index ≡ 14 → ⊥
-not_select h ps w (inl (inl t)) e = let f = t.0 in absurd (omega arith)
-not_select h ps w (inl (inr (inl t))) e = absurd (omega arith)
-not_select h ps w (inl (inr (inr p))) e = let t = p.table in absurd (omega arith)
-not_select h ps w (inr t) e = let f : w.index ≡ 2 = ap (λ (x : RegPair). x.index) t.0 in absurd (omega arith)
+-- Neither MDSTALLH nor RRIDSCP is written.
+next_outside : (h : Shape) (ps : List RegPair) (w : RegPair) → IsNext h ps w → 13 ≤ w.index → w.index < 512 → ⊥
+next_outside h ps w (inl (inl t)) l u = let f = t.0 in absurd (omega arith)
+next_outside h ps w (inl (inr (inl t))) l u = absurd (omega arith)
+next_outside h ps w (inl (inr (inr p))) l u = let t = p.table in absurd (omega arith)
+next_outside h ps w (inr t) l u = let f : w.index ≡ 2 = ap (λ (x : RegPair). x.index) t.0 in absurd (omega arith)
 
 kept_flags : (r : Registers) (flags : List Bool) (index value : ℕ) → (index ≡ 12 → ⊥) → (index ≡ 14 → ⊥) → flags_after r flags index value ≡ flags
 kept_flags r flags index value p q =
     cond-false (index == 12) (flags_after_mdstall r value) _ (ne_eqb index 12 p) ∙ cond-false (index == 14) (flags_after_rridscp flags value) flags (ne_eqb index 14 q)
 
 write_stands : (h : Shape) (ps : List RegPair) (x : UnitState) (index value : ℕ) → IsPolicyShape h → IsNext h ps (pair index value) → UnitStands h ps x → UnitStands h (ps ++ pair index value ∷ []) (after_write x index value)
-write_stands h ps x index value good next c = record {
-  registers = stands_step h ps x.registers (pair index value) good next c.registers;
-  stalled = λ v s l. ⊎_elim
-      (λ (e : index ≡ 12).
-      let one : value ≡ 1 = sym (value_same ps (pair index value) 12 e) ∙ v in
-      let known : s < x.registers.shape.rrids = subst (λ (z : Shape). s < z.rrids) (sym c.registers.unlocked.shape) l in
-      ap (λ fs. flag_of fs s) (cond-true (index == 12) (flags_after_mdstall x.registers value) _ (eq-eqb index 12 e) ∙ ap (flags_after_mdstall x.registers) one) ∙ all_stalled x.registers s known)
-      (λ (ne : index ≡ 12 → ⊥).
-      ap (λ fs. flag_of fs s) (kept_flags x.registers x.flags index value ne (not_select h ps (pair index value) next))
-      ∙ c.stalled (sym (value_other ps (pair index value) 12 ne) ∙ v) s l)
-      (cases_eq index 12);
-}
+write_stands h ps x index value good next c =
+    let out = next_outside h ps (pair index value) next in
+    record {
+      registers = stands_step h ps x.registers (pair index value) good next c.registers;
+      unselected = other_stays x.registers index value (guarded_bits x.registers index) 13 (register_at x.registers.shape index) (λ e. out (omega arith) (omega arith)) ∙ c.unselected;
+      stalled = λ v s l. ⊎_elim
+          (λ (e : index ≡ 12).
+          let is : value_of (ps ++ pair index value ∷ []) 12 ≡ value = value_same ps (pair index value) 12 e in
+          let known : s < x.registers.shape.rrids = subst (λ (z : Shape). s < z.rrids) (sym c.registers.unlocked.shape) l in
+          ap (λ fs. flag_of fs s) (cond-true (index == 12) (flags_after_mdstall x.registers value) _ (eq-eqb index 12 e))
+          ∙ (stalls_all x.registers value s (subst (λ n. n < 2) is v) c.unselected known ∙ ap (λ n. n == 1) (sym is)))
+          (λ (ne : index ≡ 12 → ⊥).
+          let is : value_of (ps ++ pair index value ∷ []) 12 ≡ value_of ps 12 = value_other ps (pair index value) 12 ne in
+          ap (λ fs. flag_of fs s) (kept_flags x.registers x.flags index value ne (λ e. out (omega arith) (omega arith)))
+          ∙ (c.stalled (subst (λ n. n < 2) is v) s l ∙ ap (λ n. n == 1) (sym is)))
+          (cases_eq index 12);
+    }
 
-quiet : (h : Shape) (ps : List RegPair) (x y : UnitState) → y.flags ≡ x.flags → Stands h ps y.registers → UnitStands h ps x → UnitStands h (ps ++ []) y
-quiet h ps x y flags c u =
-    subst (λ ws. UnitStands h ws y) (sym (append_nothing ps)) (record { registers = c; stalled = λ v s l. ap (λ fs. flag_of fs s) flags ∙ u.stalled v s l })
+quiet : (h : Shape) (ps : List RegPair) (x y : UnitState) → y.flags ≡ x.flags → Stands h ps y.registers → word_at y.registers 13 ≡ word_at x.registers 13 → UnitStands h ps x → UnitStands h (ps ++ []) y
+quiet h ps x y flags c high u =
+    subst (λ ws. UnitStands h ws y) (sym (append_nothing ps)) (record { registers = c; unselected = high ∙ u.unselected; stalled = λ v s l. ap (λ fs. flag_of fs s) flags ∙ u.stalled v s l })
+
+-- A capture leaves what stands.
+captured : (h : Shape) (ps : List RegPair) (x y : UnitState) (a : Access) (d : Denial) → y.flags ≡ x.flags → y.registers ≡ recorded x.registers a d → UnitStands h ps x → UnitStands h (ps ++ []) y
+captured h ps x y a d flags e u =
+    quiet h ps x y flags (subst (Stands h ps) (sym e) (stands_recorded h ps x.registers a d u.registers)) (ap (λ r. word_at r 13) e ∙ recorded_outside x.registers a d 13 (inl (omega arith))) u
 
 step_stands : (h : Shape) (ps : List RegPair) (k : ℕ) (x : UnitState) (e : Event) → IsPolicyShape h → ((w : RegPair) → write_of e ≡ w ∷ [] → IsNext h ps w) → UnitStands h ps x → UnitStands h (ps ++ write_of e) (unit_step k x e).0
 step_stands h ps k x (RegWrite unit caller index value) good next c = write_stands h ps x index value good (next (pair index value) refl) c
-step_stands h ps k x (RegRead unit caller index) good next c = quiet h ps x x refl c.registers c
+step_stands h ps k x (RegRead unit caller index) good next c = quiet h ps x x refl c.registers refl c
 step_stands h ps k x (Submit unit caller a) good next c =
-    submit_cases (λ r. UnitStands h (ps ++ []) r.0) k x caller a (λ e. quiet h ps x _ refl c.registers c) (λ e f. quiet h ps x _ refl c.registers c)
-    (λ d. quiet h ps x _ refl (stands_recorded h ps x.registers a d c.registers) c) (quiet h ps x x refl c.registers c)
+    submit_cases (λ r. UnitStands h (ps ++ []) r.0) k x caller a (λ e. quiet h ps x _ refl c.registers refl c) (λ e f. quiet h ps x _ refl c.registers refl c)
+    (λ d. captured h ps x _ a d refl refl c) (quiet h ps x x refl c.registers refl c)
 step_stands h ps k x (Judge unit caller place) good next c =
-    judge_cases (λ r. UnitStands h (ps ++ []) r.0) x place caller (λ e. quiet h ps x x refl c.registers c) (λ item e f. quiet h ps x x refl c.registers c) (λ item e f v. quiet h ps x _ refl c.registers c)
-    (λ item e f d v. quiet h ps x _ refl (stands_recorded h ps x.registers item.access d c.registers) c)
+    judge_cases (λ r. UnitStands h (ps ++ []) r.0) x place caller (λ e. quiet h ps x x refl c.registers refl c) (λ item e f. quiet h ps x x refl c.registers refl c)
+    (λ item e f v. quiet h ps x _ refl c.registers refl c) (λ item e f d v. captured h ps x _ item.access d refl refl c)
+step_stands h ps k x _ good next c = quiet h ps x x refl c.registers refl c
 
 -- ---- a whole history
 
@@ -114,22 +145,58 @@ next_write : (h : Shape) (es : List Event) (k : ℕ) (e : Event) (w : RegPair) �
 next_write h es k e w n q r =
     next_at h [] (writes (take k es)) (writes (drop (suc k) es)) w (subst (AreNext h []) (writes_cut es k e q ∙ ap (λ ws. writes (take k es) ++ (ws ++ writes (drop (suc k) es))) r) n)
 
-elsewhere : (e : Event) → IsOnZero e → (unit_of e ≡ 0 → ⊥) → write_of e ≡ []
-elsewhere (RegWrite unit caller index value) z ne = absurd (ne z)
-elsewhere (RegRead unit caller index) z ne = refl
-elsewhere (Submit unit caller a) z ne = refl
-elsewhere (Judge unit caller place) z ne = refl
+-- The event of a place writes what its unit takes of it.
+record IsTakenFrom (g : History) (k : ℕ) (e : Event) : Type 0 where
+  pub event : Event
+  pub here : event_at g k ≡ Some event
+  pub writes : write_of event ≡ write_of e
 
-passed : (h : Shape) (es : List Event) (k : ℕ) (x : UnitState) (o : Option Event) → slice_get es k ≡ o → AllByRecursion IsOnZero es → ((e : Event) → o ≡ Some e → unit_of e ≡ 0 → ⊥) → UnitStands h (writes (take k es)) x → UnitStands h (writes (take (suc k) es)) x
-passed h es k x None q all n c = subst (λ ws. UnitStands h ws x) (sym (writes_past es k q)) c
-passed h es k x (Some e) q all n c =
-    subst (λ ws. UnitStands h ws x) (sym (writes_next es k e q ∙ (ap (λ ws. writes (take k es) ++ ws) (elsewhere e (all_get IsOnZero es k e all q) (n e refl)) ∙ append_nothing (writes (take k es))))) c
+same_write : (d e : Event) → Some d ≡ Some e → write_of d ≡ write_of e
+same_write d e q = let same : d ≡ e = cc in ap write_of same
+
+write_taken : (aims : List ℕ) (d e : Event) → taken_as aims d ≡ Some e → write_of d ≡ write_of e
+write_taken aims (RegWrite unit caller index value) e q = same_write (RegWrite unit caller index value) e q
+write_taken aims (RegRead unit caller index) e q = same_write (RegRead unit caller index) e q
+write_taken aims (Submit unit caller a) e q = same_write (Submit unit caller a) e q
+write_taken aims (Judge unit caller place) e q = same_write (Judge unit caller place) e q
+write_taken aims (Aim caller addr) e q = absurd (let n : None ≡ Some e = q in cc)
+write_taken aims (Wide unit caller rrid kind len) e q =
+    let a = wide_access aims caller rrid kind len in
+    cond_both (nat_le (a.addr + a.len) (2 ^ 52)) (Some (Submit unit caller a)) None (λ o. o ≡ Some e → write_of (Wide unit caller rrid kind len) ≡ write_of e)
+    (λ t s. same_write (Submit unit caller a) e s)
+    (λ t s. absurd (let n : None ≡ Some e = s in cc)) q
+
+taken_from : (g : History) (k : ℕ) (e : Event) → taken_at g k ≡ Some e → IsTakenFrom g k e
+taken_from g k e q = by (event_at g k) refl q
+  where
+    by : (o : Option Event) → event_at g k ≡ o → option_and_then (taken_as (aims_at g k)) o ≡ Some e → IsTakenFrom g k e
+    by None p t = absurd (let n : None ≡ Some e = t in cc)
+    by (Some d) p t = record { event = d; here = p; writes = write_taken (aims_at g k) d e t }
+
+-- An event that unit 0 doesn't take writes nothing.
+elsewhere : (g : History) (k : ℕ) (e : Event) → IsOnZero e → event_at g k ≡ Some e → ((d : Event) → taken_at g k ≡ Some d → unit_of d ≡ Some 0 → ⊥) → write_of e ≡ []
+elsewhere g k (RegWrite unit caller index value) z q n = absurd (n (RegWrite unit caller index value) (as_it_is g k (RegWrite unit caller index value) refl q) (ap (λ n. Some n) z))
+elsewhere g k _ z q n = refl
+
+passed : (h : Shape) (g : History) (k : ℕ) (x : UnitState) (o : Option Event) → event_at g k ≡ o → AllByRecursion IsOnZero g.events → ((e : Event) → taken_at g k ≡ Some e → unit_of e ≡ Some 0 → ⊥) → UnitStands h (writes (take k g.events)) x → UnitStands h (writes (take (suc k) g.events)) x
+passed h g k x None q all n c = subst (λ ws. UnitStands h ws x) (sym (writes_past g.events k q)) c
+passed h g k x (Some e) q all n c =
+    let es = g.events in
+    subst (λ ws. UnitStands h ws x) (sym (writes_next es k e q ∙ (ap (λ ws. writes (take k es) ++ ws) (elsewhere g k e (all_get IsOnZero es k e all q) q n) ∙ append_nothing (writes (take k es))))) c
 
 -- Before each place unit 0 stands after the writes before it.
-pub unit_stands : (h : Shape) (es : List Event) → IsPolicyShape h → AreNext h [] (writes es) → AllByRecursion IsOnZero es → (k : ℕ) → UnitStands h (writes (take k es)) (own_state es 0 h k)
-unit_stands h es good next all zero = record { registers = stands_reset h good; stalled = λ v s l. absurd (let n : 0 ≡ 1 = v in omega arith) }
-unit_stands h es good next all (suc k) =
-    let x = own_state es 0 h k in
-    let before = unit_stands h es good next all k in
-    own_next (UnitStands h (writes (take (suc k) es))) k 0 x (slice_get es k) (λ n. passed h es k x (slice_get es k) refl all n before)
-    (λ e q t. subst (λ ws. UnitStands h ws (unit_step k x e).0) (sym (writes_next es k e q)) (step_stands h (writes (take k es)) k x e good (λ w r. next_write h es k e w next q r) before))
+pub unit_stands : (h : Shape) (g : History) → IsPolicyShape h → AreNext h [] (writes g.events) → AllByRecursion IsOnZero g.events → (k : ℕ) → UnitStands h (writes (take k g.events)) (own_state g 0 h k)
+unit_stands h g good next all zero = record {
+  registers = stands_reset h good;
+  unselected = get_or-map-range_with_len (reset_word h) 0 (index_count h) 13 13 0 (omega arith) (omega arith);
+  stalled = λ v s l. get_or-replicate h.rrids s false false l;
+}
+unit_stands h g good next all (suc k) =
+    let x = own_state g 0 h k in
+    let es = g.events in
+    let before = unit_stands h g good next all k in
+    own_next (UnitStands h (writes (take (suc k) es))) k 0 x (taken_at g k) (λ n. passed h g k x (event_at g k) refl all n before)
+    (λ e q t.
+    let from = taken_from g k e q in
+    subst (λ ws. UnitStands h ws (unit_step k x e).0) (sym (writes_next es k from.event from.here ∙ ap (λ ws. writes (take k es) ++ ws) from.writes))
+    (step_stands h (writes (take k es)) k x e good (λ w r. next_write h es k from.event w next from.here (from.writes ∙ r)) before))

@@ -20,17 +20,18 @@ use Rattle.unit_core.specs.Submissions.{is_item}
 use Rattle.event_words.specs.Stalls.{flag_of}
 use Rattle.unit_core.specs.Units.{UnitState, unit_step, opened, submit_step, judge_step, is_stalled}
 use Rattle.unit_core.specs.Histories.{History, IsLegalHistory, history_of, event_at, reply_at, logged_in}
+use Rattle.unit_core.specs.Submitted.{taken_at}
 use Rattle.history_laws.specs.Tickets.{IsTaken, IsOwnJudgement}
 use Rattle.history_laws.specs.Verdicts.{decided}
 use Rattle.history_laws.specs.Unwritten.{units_after_boot}
-use Rattle.history_laws.proofs.Runs.{own_state, own_next, own_at, reply_is, reply_of}
-use Rattle.history_laws.proofs.Items.{submit_cases, judge_cases, items_step, all_found, released_cases}
+use Rattle.unit_core.proofs.Runs.{own_state, own_next, own_at, as_it_is, reply_is, reply_of, is_submission, submit_of}
+use Rattle.unit_core.proofs.Items.{submit_cases, judge_cases, items_step, all_found, released_cases}
 use Rattle.history_laws.proofs.QuietRecords.{IsNoWrite}
 use Rattle.history_laws.proofs.Writes.{all_filter}
-use Rattle.history_laws.proofs.Pairs.{AllPairs, AreNeighbours, pairs_filtered}
+use Rattle.event_words.proofs.Pairs.{AllPairs, AreNeighbours, pairs_filtered}
 use Rattle.history_laws.proofs.TicketReplies.{judged_open}
 use Rattle.history_laws.proofs.WordHistories.{is_entry, has_entry}
-use Rattle.history_laws.proofs.UnwrittenLaw.{AreNoWritesFrom, boot_before, units_booted, no_writes, law_unwritten}
+use Rattle.history_laws.proofs.UnwrittenLaw.{AreNoWritesFrom, no_write_taken, boot_before, units_booted, no_writes, law_unwritten}
 
 pub from_each : {X : Type 0} (P : X → Type 0) (xs : List X) → ((k : ℕ) (x : X) → slice_get xs k ≡ Some x → P x) → AllByRecursion P xs
 from_each P [] each = tt
@@ -50,6 +51,7 @@ flags_step k x (RegWrite unit caller index value) q = absurd q
 flags_step k x (RegRead unit caller index) q = refl
 flags_step k x (Submit unit caller a) q = submit_cases (λ r. r.0.flags ≡ x.flags) k x caller a (λ e. refl) (λ e f. refl) (λ d. refl) refl
 flags_step k x (Judge unit caller place) q = judge_cases (λ r. r.0.flags ≡ x.flags) x place caller (λ e. refl) (λ item e f. refl) (λ item e f v. refl) (λ item e f d v. refl)
+flags_step k x _ q = refl
 
 unstalled_step : (k : ℕ) (x : UnitState) (e : Event) → IsNoWrite e → IsUnstalled x → IsUnstalled (unit_step k x e).0
 unstalled_step k x e q c = record {
@@ -57,14 +59,14 @@ unstalled_step k x e q c = record {
   items = items_step IsFree IsFree k x e (λ item f. f) (λ item f. released_cases IsFree _ item (λ t. f) (λ t. refl)) (λ unit caller a queued t stalled taken. sym stalled ∙ c.free a.rrid) c.items;
 }
 
-unstalled_later : (es : List Event) (u : ℕ) (shape : Shape) (n m : ℕ) → AreNoWritesFrom es n → IsUnstalled (own_state es u shape n) → IsUnstalled (own_state es u shape (n + m))
-unstalled_later es u shape n zero q c = let z : n ≡ n + 0 = omega arith in subst (λ k. IsUnstalled (own_state es u shape k)) z c
-unstalled_later es u shape n (suc m) q c =
+unstalled_later : (h : History) (u : ℕ) (shape : Shape) (n m : ℕ) → AreNoWritesFrom h n → IsUnstalled (own_state h u shape n) → IsUnstalled (own_state h u shape (n + m))
+unstalled_later h u shape n zero q c = let z : n ≡ n + 0 = omega arith in subst (λ k. IsUnstalled (own_state h u shape k)) z c
+unstalled_later h u shape n (suc m) q c =
     let z : suc (n + m) ≡ n + suc m = omega arith in
-    let x = own_state es u shape (n + m) in
-    let before = unstalled_later es u shape n m q c in
-    subst (λ k. IsUnstalled (own_state es u shape k)) z
-    (own_next IsUnstalled (n + m) u x (slice_get es (n + m)) (λ none. before) (λ e at on. unstalled_step (n + m) x e (q (n + m) e (omega arith) at) before))
+    let x = own_state h u shape (n + m) in
+    let before = unstalled_later h u shape n m q c in
+    subst (λ k. IsUnstalled (own_state h u shape k)) z
+    (own_next IsUnstalled (n + m) u x (taken_at h (n + m)) (λ none. before) (λ e at on. unstalled_step (n + m) x e (no_write_taken h n (n + m) e q (omega arith) at) before))
 
 by_flag : (b : Bool) (x y : UnitState × Reply) → b ≡ false → x.1 ≡ replies.Passed → (if not b then x else y).1 ≡ replies.Passed
 by_flag true x y e h = absurd (let n : true ≡ false = e in cc)
@@ -95,29 +97,29 @@ module _ (shapes : List Shape) (boot : SectionOf) (lanes : List SectionOf) (word
   n = length g.legal.order.boot
 
   -- The unit before the first event of a lane.
-  pub state_booted : (u : ℕ) (shape : Shape) → slice_get shapes u ≡ Some shape → slice_get (units_after_boot shapes words) u ≡ Some (own_state h.events u shape n)
+  pub state_booted : (u : ℕ) (shape : Shape) → slice_get shapes u ≡ Some shape → slice_get (units_after_boot shapes words) u ≡ Some (own_state h u shape n)
   state_booted u shape q = ap (λ us. slice_get us u) (sym (units_booted shapes (length lanes) words g.legal.events g.legal.order)) ∙ own_at h u n shape q
 
-  unstalled_at : (u : ℕ) (shape : Shape) → slice_get shapes u ≡ Some shape → (k : ℕ) → n ≤ k → IsUnstalled (own_state h.events u shape k)
+  unstalled_at : (u : ℕ) (shape : Shape) → slice_get shapes u ≡ Some shape → (k : ℕ) → n ≤ k → IsUnstalled (own_state h u shape k)
   unstalled_at u shape q k l =
       let z : n + (k - n) ≡ k = omega arith in
-      subst (λ j. IsUnstalled (own_state h.events u shape j)) z
-      (unstalled_later h.events u shape n (k - n) (no_writes shapes boot lanes words g.legal g.quiet) (g.unstalled u (own_state h.events u shape n) (state_booted u shape q)))
+      subst (λ j. IsUnstalled (own_state h u shape j)) z
+      (unstalled_later h u shape n (k - n) (no_writes shapes boot lanes words g.legal g.quiet) (g.unstalled u (own_state h u shape n) (state_booted u shape q)))
 
   after_boot : (k : ℕ) (e : Event) → event_at h k ≡ Some e → 1 ≤ caller_of e → n ≤ k
   after_boot k e q l = boot_before shapes (length lanes) words g.legal.events g.legal.order k e q l
 
   pub passed_at : (u : ℕ) (shape : Shape) (c k : ℕ) (a : Access) → slice_get shapes u ≡ Some shape → 1 ≤ c → event_at h k ≡ Some (Submit u c a) → reply_at h k ≡ Some replies.Passed
   passed_at u shape c k a q l event =
-      let x = own_state h.events u shape k in
+      let x = own_state h u shape k in
       let calm = unstalled_at u shape q k (after_boot k (Submit u c a) event l) in
-      reply_of h k (Submit u c a) x event (own_at h u k shape q) ∙ ap (λ r. Some r) (passes k x c a (calm.free a.rrid))
+      reply_of h k (Submit u c a) u x refl (as_it_is h k (Submit u c a) refl event) (own_at h u k shape q) ∙ ap (λ r. Some r) (passes k x c a (calm.free a.rrid))
 
   -- A submission of a caller, and its next event, a judgement of it: this is the reply.
   abbrev pub IsAnswered : ℕ → LoggedEvent → LoggedEvent → Type 0
-  IsAnswered c x y = (u : ℕ) (shape : Shape) (a : Access) → slice_get shapes u ≡ Some shape → x.event ≡ Submit u c a → y.event ≡ Judge u c x.place → y.reply ≡ replies.Verdict (decided (own_state h.events u shape n) a)
+  IsAnswered c x y = (u : ℕ) (shape : Shape) (a : Access) → slice_get shapes u ≡ Some shape → x.event ≡ Submit u c a → y.event ≡ Judge u c x.place → y.reply ≡ replies.Verdict (decided (own_state h u shape n) a)
 
-  same_access : (u c : ℕ) (a b : Access) (i : ℕ) → event_at h i ≡ Some (Submit u c a) → event_at h i ≡ Some (Submit u c b) → b ≡ a
+  same_access : (u c : ℕ) (a b : Access) (i : ℕ) → taken_at h i ≡ Some (Submit u c a) → taken_at h i ≡ Some (Submit u c b) → b ≡ a
   same_access u c a b i p q = let same : Some (Submit u c a) ≡ Some (Submit u c b) = sym p ∙ q in cc
 
   answered : (c i k : ℕ) (x y : LoggedEvent) → 1 ≤ c → AreNeighbours (is_by c) (logged_in shapes words) i k x y → IsAnswered c x y
@@ -126,8 +128,9 @@ module _ (shapes : List Shape) (boot : SectionOf) (lanes : List SectionOf) (word
       let first = is_entry shapes words all i x near.1 in
       let second = is_entry shapes words all k y near.2 in
       let submitted : event_at h i ≡ Some (Submit u c a) = first.event ∙ ap (λ e. Some e) xe in
+      let taken_first = as_it_is h i (Submit u c a) refl submitted in
       let judged : event_at h k ≡ Some (Judge u c i) = second.event ∙ ap (λ e. Some e) (ye ∙ ap (Judge u c) first.place) in
-      let taken : IsTaken h u c i a = record { event = submitted; reply = inl (passed_at u shape c i a q some submitted) } in
+      let taken : IsTaken h u c i a = record { event = is_submission h i u c a taken_first; reply = inl (passed_at u shape c i a q some submitted) } in
       let own : IsOwnJudgement h u c i k = record { event = judged; later = near.0 } in
       let replied = judged_open h u c i k a y.reply taken own
       (λ j l v.
@@ -137,15 +140,15 @@ module _ (shapes : List Shape) (boot : SectionOf) (lanes : List SectionOf) (word
       second.reply in
       ⊎_elim
       (λ (held : y.reply ≡ replies.Held).
-      let s = own_state h.events u shape k in
-      let r = reply_is h k (Judge u c i) replies.Held s judged (second.reply ∙ ap (λ r. Some r) held) (own_at h u k shape q) in
+      let s = own_state h u shape k in
+      let r = reply_is h k (Judge u c i) u replies.Held s refl (as_it_is h k (Judge u c i) refl judged) (second.reply ∙ ap (λ r. Some r) held) (own_at h u k shape q) in
       absurd (not_held s i c (unstalled_at u shape q k (after_boot k (Judge u c i) judged some)).items r))
       (λ (verdict : (v : Verdict) × (y.reply ≡ replies.Verdict v)).
       let law = law_unwritten shapes boot lanes words g.legal g.quiet u c i k verdict.0 some judged (second.reply ∙ ap (λ r. Some r) verdict.1) in
-      let access = same_access u c a law.access i submitted law.submission.event in
-      let state : Some law.state ≡ Some (own_state h.events u shape n) = sym law.booted ∙ state_booted u shape q in
-      let same : law.state ≡ own_state h.events u shape n = cc in
-      verdict.1 ∙ ap (λ v. replies.Verdict v) (law.verdict_is ∙ ap (λ s. decided s law.access) same ∙ ap (decided (own_state h.events u shape n)) access))
+      let access = same_access u c a law.access i taken_first (submit_of h i u c law.access law.submission.event) in
+      let state : Some law.state ≡ Some (own_state h u shape n) = sym law.booted ∙ state_booted u shape q in
+      let same : law.state ≡ own_state h u shape n = cc in
+      verdict.1 ∙ ap (λ v. replies.Verdict v) (law.verdict_is ∙ ap (λ s. decided s law.access) same ∙ ap (decided (own_state h u shape n)) access))
       replied
 
   -- so of the events of a lane's caller

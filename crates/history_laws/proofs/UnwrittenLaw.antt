@@ -1,5 +1,5 @@
 -- Events that write no register leave what decides, so the registers after the boot section decide.
-use Rattle.std.proofs.Common.{◌≡◌, ℕ, zero, suc, ◌+◌, ◌-◌, ◌<◌, ◌≤◌, inl, ◌++◌, not, ◌&&◌, ◌||◌, get_or, true, false, List, [], ◌∷◌, Some, length, map, filter, take, refl, sym, ap, ◌∙◌, subst, arith, ⊎_elim}
+use Rattle.std.proofs.Common.{◌≡◌, ℕ, zero, suc, ◌+◌, ◌-◌, ◌<◌, ◌≤◌, inl, ◌++◌, not, ◌&&◌, ◌||◌, get_or, true, false, List, [], ◌∷◌, Some, length, filter, take, refl, sym, ap, ◌∙◌, subst, arith, ⊎_elim}
 use Rattle.std.specs.Prelude.{slice_get, unwrap_or}
 use Rattle.std.specs.List.{AllByRecursion}
 use Rattle.std.proofs.lemmas.Bool.{cases_lt, eq-eqb, ne_eqb}
@@ -21,18 +21,18 @@ use Rattle.event_words.specs.Guards.{reg}
 use Rattle.event_words.specs.Decisions.{decision}
 use Rattle.event_words.specs.Denials.{recorded}
 use Rattle.event_words.specs.Events.{caller_of}
-use Rattle.event_words.specs.Runs.{bearer, IsEventWord, run}
+use Rattle.event_words.specs.Runs.{bearer, IsEventWord}
 use Rattle.event_words.specs.Sections.{SectionOf, WritesNothing}
 use Rattle.event_words.specs.Records.{is_by}
 use Rattle.event_words.proofs.Runs.{bearer-word_of}
-use Rattle.unit_core.specs.Units.{UnitState, unit_at_reset, unit_step}
-use Rattle.unit_core.specs.Fabrics.{state_after_word}
-use Rattle.unit_core.specs.Histories.{IsBoot, IsOfLane, BootComesFirst, IsLegalHistory, history_of, units_at, units_after, event_at, logged_in}
+use Rattle.unit_core.specs.Units.{UnitState, unit_step}
+use Rattle.unit_core.specs.Histories.{History, IsBoot, IsOfLane, BootComesFirst, IsLegalHistory, history_of, units_at, units_after, event_at, logged_in}
+use Rattle.unit_core.specs.Submitted.{taken_at}
 use Rattle.history_laws.specs.Verdicts.{verdict_of, decided}
 use Rattle.history_laws.specs.Unwritten.{is_boot, units_after_boot, LawUnwritten}
-use Rattle.history_laws.proofs.Runs.{own_state, own_next, own_at, shape_there}
-use Rattle.history_laws.proofs.Items.{submit_cases, judge_cases}
-use Rattle.history_laws.proofs.Registers.{recorded_cases, recorded_other}
+use Rattle.unit_core.proofs.Runs.{own_state, own_next, own_at, shape_there, event_taken}
+use Rattle.unit_core.proofs.Items.{submit_cases, judge_cases}
+use Rattle.unit_core.proofs.Registers.{recorded_cases, recorded_other}
 use Rattle.history_laws.proofs.SameTables.{DifferInRecord, same_decision}
 use Rattle.history_laws.proofs.VerdictLaw.{law_verdicts}
 use Rattle.history_laws.proofs.WordHistories.{length_events, word_at_place, event_at_words, units_at_words, reply_at_words, has_entry}
@@ -65,22 +65,28 @@ no_write_step k x (Submit unit caller a) q =
 no_write_step k x (Judge unit caller place) q =
     judge_cases (λ r. DifferInRecord r.0.registers x.registers) x place caller (λ e. differ_not x.registers) (λ item e f. differ_not x.registers) (λ item e f v. differ_not x.registers)
     (λ item e f d v. recorded_differ x.registers item.access d)
+no_write_step k x _ q = differ_not x.registers
 
 -- so for all events from a place on
-abbrev pub AreNoWritesFrom : List Event → ℕ → Type 0
-AreNoWritesFrom es n = (k : ℕ) (e : Event) → n ≤ k → slice_get es k ≡ Some e → IsNoWrite e
+abbrev pub AreNoWritesFrom : History → ℕ → Type 0
+AreNoWritesFrom h n = (k : ℕ) (e : Event) → n ≤ k → event_at h k ≡ Some e → IsNoWrite e
 
-pub registers_later : (es : List Event) (u : ℕ) (shape : Shape) (n m : ℕ) → AreNoWritesFrom es n → DifferInRecord (own_state es u shape (n + m)).registers (own_state es u shape n).registers
-registers_later es u shape n zero q =
+-- What a unit takes there is no write either.
+pub no_write_taken : (h : History) (n k : ℕ) (e : Event) → AreNoWritesFrom h n → n ≤ k → taken_at h k ≡ Some e → IsNoWrite e
+no_write_taken h n k (RegWrite unit caller index value) q l at = q k (RegWrite unit caller index value) l (event_taken h k (RegWrite unit caller index value) refl at)
+no_write_taken h n k _ q l at = tt
+
+pub registers_later : (h : History) (u : ℕ) (shape : Shape) (n m : ℕ) → AreNoWritesFrom h n → DifferInRecord (own_state h u shape (n + m)).registers (own_state h u shape n).registers
+registers_later h u shape n zero q =
     let z : n ≡ n + 0 = omega arith in
-    subst (λ k. DifferInRecord (own_state es u shape k).registers (own_state es u shape n).registers) z (differ_not (own_state es u shape n).registers)
-registers_later es u shape n (suc m) q =
+    subst (λ k. DifferInRecord (own_state h u shape k).registers (own_state h u shape n).registers) z (differ_not (own_state h u shape n).registers)
+registers_later h u shape n (suc m) q =
     let z : suc (n + m) ≡ n + suc m = omega arith in
-    let x = own_state es u shape (n + m) in
-    let before = registers_later es u shape n m q in
-    subst (λ k. DifferInRecord (own_state es u shape k).registers (own_state es u shape n).registers) z
-    (own_next (λ y. DifferInRecord y.registers (own_state es u shape n).registers) (n + m) u x (slice_get es (n + m)) (λ none. before)
-    (λ e at on. differ_on (unit_step (n + m) x e).0.registers x.registers (own_state es u shape n).registers (no_write_step (n + m) x e (q (n + m) e (omega arith) at)) before))
+    let x = own_state h u shape (n + m) in
+    let before = registers_later h u shape n m q in
+    subst (λ k. DifferInRecord (own_state h u shape k).registers (own_state h u shape n).registers) z
+    (own_next (λ y. DifferInRecord y.registers (own_state h u shape n).registers) (n + m) u x (taken_at h (n + m)) (λ none. before)
+    (λ e at on. differ_on (unit_step (n + m) x e).0.registers x.registers (own_state h u shape n).registers (no_write_step (n + m) x e (no_write_taken h n (n + m) e q (omega arith) at)) before))
 
 -- ---- what decides
 
@@ -119,8 +125,8 @@ boot_words lanes words b =
 pub units_booted : (shapes : List Shape) (lanes : ℕ) (words : List ℕ) → AllByRecursion IsEventWord words → (b : BootComesFirst lanes words) → units_at (history_of shapes words) (length b.boot) ≡ units_after_boot shapes words
 units_booted shapes lanes words all b =
     units_at_words shapes words all (length b.boot)
-    ∙ ap (λ ws. run state_after_word (map unit_at_reset shapes) (take (length b.boot) ws)) b.is
-    ∙ ap (run state_after_word (map unit_at_reset shapes)) (take-append_seam b.boot b.others)
+    ∙ ap (λ ws. units_after shapes (take (length b.boot) ws)) b.is
+    ∙ ap (units_after shapes) (take-append_seam b.boot b.others)
     ∙ ap (units_after shapes) (sym (boot_words lanes words b))
 
 -- who makes the event at a place
@@ -169,7 +175,7 @@ caller_within shapes lanes words all b k e q = ⊎_elim
 
 -- No event after the boot section's writes a register.
 pub no_writes : (shapes : List Shape) (boot : SectionOf) (lanes : List SectionOf) (words : List ℕ) (legal : IsLegalHistory shapes boot lanes words) → AllByRecursion WritesNothing lanes
-    → AreNoWritesFrom (history_of shapes words).events (length legal.order.boot)
+    → AreNoWritesFrom (history_of shapes words) (length legal.order.boot)
 no_writes shapes boot lanes words legal q k e l at =
     let all = legal.events in
     let c = lane_after_boot shapes (length lanes) words all legal.order k e at l in
@@ -188,11 +194,11 @@ law_unwritten shapes boot lanes words legal q u caller place p v some event repl
     let is = law_verdicts (history_of shapes words) u caller place p v event reply in
     let there = shape_there (history_of shapes words) u p is.state is.here in
     let later : n ≤ p = boot_before shapes (length lanes) words legal.events legal.order p (Judge u caller place) event some in
-    let x = own_state (history_of shapes words).events u there.0 n in
+    let x = own_state (history_of shapes words) u there.0 n in
     let z : n + (p - n) ≡ p = omega arith in
     let differ : DifferInRecord is.state.registers x.registers =
-    subst (λ (y : UnitState). DifferInRecord y.registers x.registers) (ap (own_state (history_of shapes words).events u there.0) z ∙ there.2)
-    (registers_later (history_of shapes words).events u there.0 n (p - n) (no_writes shapes boot lanes words legal q)) in
+    subst (λ (y : UnitState). DifferInRecord y.registers x.registers) (ap (own_state (history_of shapes words) u there.0) z ∙ there.2)
+    (registers_later (history_of shapes words) u there.0 n (p - n) (no_writes shapes boot lanes words legal q)) in
     record {
       access = is.access;
       state = x;

@@ -1,4 +1,5 @@
 -- A verdict is what the registers of its place decide.
+use Rattle.std.specs.Prelude.{slice_get}
 use Rattle.std.proofs.Common.{◌≡◌, ℕ, ◌<◌, eqb, Option, Some, None, find, refl, sym, ◌∙◌, subst}
 use Rattle.std.proofs.lemmas.Bool.{cond_both, eqb-true, and_parts}
 use Rattle.event_words.specs.declared.access.Access.{Access}
@@ -14,8 +15,8 @@ use Rattle.unit_core.specs.Submissions.{is_item}
 use Rattle.unit_core.specs.Units.{UnitState, judge_item, verdict_step, closed}
 use Rattle.history_laws.specs.Tickets.{IsTaken}
 use Rattle.history_laws.specs.Verdicts.{verdict_of, decided, LawVerdicts}
-use Rattle.history_laws.proofs.Runs.{own_at, own_state, reply_is, answered_shape}
-use Rattle.history_laws.proofs.Items.{all_found}
+use Rattle.unit_core.proofs.Runs.{own_at, own_state, as_it_is, reply_is, answered_shape}
+use Rattle.unit_core.proofs.Items.{all_found}
 use Rattle.history_laws.proofs.WindowLaw.{IsFrom, own_from}
 use Rattle.history_laws.proofs.TicketSteps.{IsBelow}
 use Rattle.history_laws.proofs.TicketLaw.{own_places}
@@ -43,13 +44,17 @@ judged_item x place caller v (Some item) e =
 
 pub law_verdicts : LawVerdicts
 law_verdicts h u caller q p v event reply =
-    let there = answered_shape h p (Judge u caller q) (replies.Verdict v) event reply (λ n. cc) in
-    let x = own_state h.events u there.0 p in
-    let state = own_at h u p there.0 there.1 in
-    let r = reply_is h p (Judge u caller q) (replies.Verdict v) x event reply state in
+    let taken = as_it_is h p (Judge u caller q) refl event in
+    let has = answered_shape h p (Judge u caller q) (replies.Verdict v) taken reply (λ n. cc) in
+    let shape = has.shape in
+    let same_unit : has.unit ≡ u = let n : Some u ≡ Some has.unit = has.speaks in cc in
+    let there : slice_get h.shapes u ≡ Some shape = subst (λ n. slice_get h.shapes n ≡ Some shape) same_unit has.there in
+    let x = own_state h u shape p in
+    let state = own_at h u p shape there in
+    let r = reply_is h p (Judge u caller q) u (replies.Verdict v) x refl taken reply state in
     let judged = judged_item x q caller v (find (is_item q caller) x.submissions) r in
-    let c = all_found (IsFrom h u) (is_item q caller) x.submissions judged.item judged.found (own_from h u there.0 there.1 p) in
-    let b = all_found (IsBelow p) (is_item q caller) x.submissions judged.item judged.found (own_places h.events u there.0 p) in
+    let c = all_found (IsFrom h u) (is_item q caller) x.submissions judged.item judged.found (own_from h u shape there p) in
+    let b = all_found (IsBelow p) (is_item q caller) x.submissions judged.item judged.found (own_places h u shape p) in
     let parts = and_parts (eqb judged.item.place q) (eqb judged.item.caller caller) c.1 in
     let place = eqb-true judged.item.place q parts.0 in
     let same = eqb-true judged.item.caller caller parts.1 in

@@ -14,34 +14,35 @@ use Rattle.unit_core.specs.declared.Submission.{Submission}
 use Rattle.unit_core.specs.Submissions.{is_item, is_waiting}
 use Rattle.event_words.specs.Events.{unit_of}
 use Rattle.unit_core.specs.Units.{UnitState, unit_step, is_stalled, is_busy, read_value}
-use Rattle.unit_core.specs.Histories.{History, state_at, event_at, reply_at}
+use Rattle.unit_core.specs.Histories.{History, state_at, reply_at}
+use Rattle.unit_core.specs.Submitted.{taken_at}
 use Rattle.unit_core.specs.Windows.{is_flagged, IsInDrainedWindow}
 use Rattle.history_laws.specs.Tickets.{IsTaken}
 use Rattle.history_laws.specs.Windows.{LawWindows}
-use Rattle.history_laws.proofs.Runs.{own, own_next, own_state, own_induction, own_at, reply_is, reply_of}
-use Rattle.history_laws.proofs.Registers.{written_even, recorded_even, reset_even}
-use Rattle.history_laws.proofs.Items.{submit_cases, judge_cases, items_step, all_found, judged, released_cases}
+use Rattle.unit_core.proofs.Runs.{own, own_next, own_state, own_induction, own_at, as_it_is, reply_is, reply_of, is_submission, submit_of}
+use Rattle.unit_core.proofs.Registers.{written_even, recorded_even, reset_even}
+use Rattle.unit_core.proofs.Items.{submit_cases, judge_cases, items_step, all_found, judged, released_cases}
 
 -- ---- open submissions come from their events
 
 pub record IsFrom (h : History) (u : ℕ) (item : Submission) : Type 0 where
   pub taken : IsTaken h u item.caller item.place item.access
 
-new_from : (h : History) (u k : ℕ) (x : UnitState) (e : Event) (unit caller : ℕ) (a : Access) → event_at h k ≡ Some e → unit_of e ≡ u → e ≡ Submit unit caller a → reply_at h k ≡ Some (unit_step k x e).1
+new_from : (h : History) (u k : ℕ) (x : UnitState) (e : Event) (unit caller : ℕ) (a : Access) → taken_at h k ≡ Some e → unit_of e ≡ Some u → e ≡ Submit unit caller a → reply_at h k ≡ Some (unit_step k x e).1
     → ((unit_step k x e).1 ≡ replies.Passed) ⊎ ((unit_step k x e).1 ≡ replies.Queued) → IsTaken h u caller k a
 new_from h u k x e unit caller a q t s r taken = record {
-  event = q ∙ ap (λ f. Some f) s ∙ ap (λ n. Some (Submit n caller a)) (ap unit_of (sym s) ∙ t);
+  event = is_submission h k u caller a (q ∙ ap (λ f. Some f) s ∙ (let m : unit_of (Submit unit caller a) ≡ Some u = ap unit_of (sym s) ∙ t in let n : unit ≡ u = cc in ap (λ n. Some (Submit n caller a)) n));
   reply = ⊎_elim (λ p. inl (r ∙ ap (λ y. Some y) p)) (λ p. inr (r ∙ ap (λ y. Some y) p)) taken;
 }
 
-pub own_from : (h : History) (u : ℕ) (shape : Shape) → slice_get h.shapes u ≡ Some shape → (k : ℕ) → AllByRecursion (IsFrom h u) (own_state h.events u shape k).submissions
+pub own_from : (h : History) (u : ℕ) (shape : Shape) → slice_get h.shapes u ≡ Some shape → (k : ℕ) → AllByRecursion (IsFrom h u) (own_state h u shape k).submissions
 own_from h u shape there zero = tt
 own_from h u shape there (suc k) =
-    let x = own_state h.events u shape k in
+    let x = own_state h u shape k in
     let before = own_from h u shape there k in
-    own_next (λ y. AllByRecursion (IsFrom h u) y.submissions) k u x (slice_get h.events k) (λ n. before)
+    own_next (λ y. AllByRecursion (IsFrom h u) y.submissions) k u x (taken_at h k) (λ n. before)
     (λ e q t.
-    let r = reply_of h k e x q (subst (λ v. state_at h k v ≡ Some x) (sym t) (own_at h u k shape there)) in
+    let r = reply_of h k e u x t q (own_at h u k shape there) in
     items_step (IsFrom h u) (IsFrom h u) k x e (λ item f. f)
     (λ item f. released_cases (IsFrom h u) _ item (λ e. f) (λ e. record { taken = record { event = f.taken.event; reply = f.taken.reply } }))
     (λ unit caller a queued s stalled taken. record { taken = new_from h u k x e unit caller a q t s r taken }) before)
@@ -56,10 +57,11 @@ even_step k x (Submit unit caller a) h =
 even_step k x (Judge unit caller place) h =
     judge_cases (λ r. bit_at (word_at r.0.registers 12) 0 ≡ 0) x place caller (λ e. h) (λ item e f. h) (λ item e f v. h)
     (λ item e f d v. recorded_even x.registers item.access d h)
+even_step k x _ h = h
 
-own_even : (es : List Event) (u : ℕ) (shape : Shape) (k : ℕ) → bit_at (word_at (own_state es u shape k).registers 12) 0 ≡ 0
-own_even es u shape k =
-    own_induction (λ k x. bit_at (word_at x.registers 12) 0 ≡ 0) es u shape (reset_even shape) (λ k x h. h) (λ k x e q t h. even_step k x e h) k
+own_even : (h : History) (u : ℕ) (shape : Shape) (k : ℕ) → bit_at (word_at (own_state h u shape k).registers 12) 0 ≡ 0
+own_even h u shape k =
+    own_induction (λ k x. bit_at (word_at x.registers 12) 0 ≡ 0) h u shape (reset_even shape) (λ k x s. s) (λ k x e q t s. even_step k x e s) k
 
 odd_one : (w : ℕ) (busy : Bool) → bit_at w 0 ≡ 0 → has_bit (w + count_of_bool busy) 0 ≡ false → busy ≡ false
 odd_one w true e f =
@@ -94,45 +96,45 @@ held_step s k x e f g h =
 flagged_shape : (h : History) (u s k : ℕ) → is_flagged (state_at h k u) s ≡ true → (shape : Shape) × (slice_get h.shapes u ≡ Some shape)
 flagged_shape h u s k e = there (slice_get h.shapes u) refl (subst (λ o. is_flagged o s ≡ true) (own h u k) e)
   where
-    there : (o : Option Shape) → slice_get h.shapes u ≡ o → is_flagged (option_map (λ shape. own_state h.events u shape k) o) s ≡ true → (shape : Shape) × (slice_get h.shapes u ≡ Some shape)
+    there : (o : Option Shape) → slice_get h.shapes u ≡ o → is_flagged (option_map (λ shape. own_state h u shape k) o) s ≡ true → (shape : Shape) × (slice_get h.shapes u ≡ Some shape)
     there None q e = absurd (false≢true e)
     there (Some shape) q e = (shape, q)
 
 held_at : (h : History) (u s b p : ℕ) (shape : Shape) → slice_get h.shapes u ≡ Some shape → IsInDrainedWindow h u s b p
-    → ((k : ℕ) → b ≤ k → k ≤ p → is_stalled (own_state h.events u shape k) s ≡ true)
-    → (k : ℕ) → b ≤ k → k ≤ p → AllByRecursion (IsHeldOf s) (own_state h.events u shape k).submissions
+    → ((k : ℕ) → b ≤ k → k ≤ p → is_stalled (own_state h u shape k) s ≡ true)
+    → (k : ℕ) → b ≤ k → k ≤ p → AllByRecursion (IsHeldOf s) (own_state h u shape k).submissions
 held_at h u s b p shape q w f k = from k (cases_eq b k)
   where
-    start : AllByRecursion (IsHeldOf s) (own_state h.events u shape b).submissions
+    start : AllByRecursion (IsHeldOf s) (own_state h u shape b).submissions
     start =
-        let x = own_state h.events u shape b in
-        let r = reply_is h b (RegRead u w.caller 12) (replies.Value w.value) x w.event w.reply (own_at h u b shape q) in
+        let x = own_state h u shape b in
+        let r = reply_is h b (RegRead u w.caller 12) u (replies.Value w.value) x refl (as_it_is h b (RegRead u w.caller 12) refl w.event) w.reply (own_at h u b shape q) in
         let value : read_value x 12 ≡ w.value = cc in
         idle_held x.flags s x.submissions (f b (omega arith) (omega (arith, w.later)))
-        (odd_one (word_at x.registers 12) (is_busy x) (own_even h.events u shape b) (subst (λ n. has_bit n 0 ≡ false) (sym value) w.idle))
+        (odd_one (word_at x.registers 12) (is_busy x) (own_even h u shape b) (subst (λ n. has_bit n 0 ≡ false) (sym value) w.idle))
 
-    from : (k : ℕ) → (b ≡ k) ⊎ (b ≡ k → ⊥) → b ≤ k → k ≤ p → AllByRecursion (IsHeldOf s) (own_state h.events u shape k).submissions
-    from k (inl e) l m = subst (λ j. AllByRecursion (IsHeldOf s) (own_state h.events u shape j).submissions) e start
+    from : (k : ℕ) → (b ≡ k) ⊎ (b ≡ k → ⊥) → b ≤ k → k ≤ p → AllByRecursion (IsHeldOf s) (own_state h u shape k).submissions
+    from k (inl e) l m = subst (λ j. AllByRecursion (IsHeldOf s) (own_state h u shape j).submissions) e start
     from zero (inr ne) l m = absurd (ne (omega arith))
     from (suc k) (inr ne) l m =
         let below : b ≤ k = omega arith in
-        own_next (λ x. is_stalled x s ≡ true → AllByRecursion (IsHeldOf s) x.submissions) k u (own_state h.events u shape k) (slice_get h.events k)
+        own_next (λ x. is_stalled x s ≡ true → AllByRecursion (IsHeldOf s) x.submissions) k u (own_state h u shape k) (taken_at h k)
         (λ n g. from k (cases_eq b k) below (omega arith))
-        (λ e o t g. held_step s k (own_state h.events u shape k) e (f k below (omega arith)) g (from k (cases_eq b k) below (omega arith)))
+        (λ e o t g. held_step s k (own_state h u shape k) e (f k below (omega arith)) g (from k (cases_eq b k) below (omega arith)))
         (f (suc k) l m)
 
 pub law_windows : LawWindows
 law_windows h u s b p w v =
     let there = flagged_shape h u s b (w.flagged b (omega arith) (omega (arith, w.later))) in
     let shape = there.0 in
-    let x = own_state h.events u shape p in
+    let x = own_state h u shape p in
     let f = λ (k : ℕ) (l : b ≤ k) (m : k ≤ p). subst (λ o. is_flagged o s ≡ true) (own_at h u k shape there.1) (w.flagged k l m) in
     let held = held_at h u s b p shape there.1 w f p (omega (arith, w.later)) (omega arith) in
-    let r = reply_is h p (Judge u v.caller v.place) (replies.Verdict v.verdict) x v.event v.reply (own_at h u p shape there.1) in
+    let r = reply_is h p (Judge u v.caller v.place) u (replies.Verdict v.verdict) x refl (as_it_is h p (Judge u v.caller v.place) refl v.event) v.reply (own_at h u p shape there.1) in
     let found = judged x v.place v.caller v.verdict r in
     let a = all_found (IsHeldOf s) (is_item v.place v.caller) x.submissions found.0 found.1 held in
     let c = all_found (IsFrom h u) (is_item v.place v.caller) x.submissions found.0 found.1 (own_from h u shape there.1 p) in
     let place = eqb-true found.0.place v.place (and_parts (eqb found.0.place v.place) _ a.1).0 in
-    let same = sym (subst (λ n. slice_get h.events n ≡ Some (Submit u found.0.caller found.0.access)) place c.0.taken.event) ∙ v.submission in
+    let same = sym (subst (λ n. taken_at h n ≡ Some (Submit u found.0.caller found.0.access)) place (submit_of h _ u _ _ c.0.taken.event)) ∙ submit_of h v.place u v.caller v.access v.submission in
     let access : found.0.access ≡ v.access = cc in
     false≢true (sym found.2 ∙ a.0 (ap (λ (z : Access). z.rrid) access ∙ v.requester))

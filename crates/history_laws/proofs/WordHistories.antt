@@ -1,5 +1,5 @@
 -- A list of event words as a history: what stands at each place, and what is logged of it.
-use Rattle.std.proofs.Common.{◌≡◌, ℕ, suc, zero, ◌+◌, List, [], ◌∷◌, Option, Some, None, length, map, take, refl, sym, ap, ◌∙◌, subst, arith}
+use Rattle.std.proofs.Common.{◌≡◌, ℕ, suc, zero, ◌+◌, List, [], ◌∷◌, Option, Some, None, length, take, refl, sym, ap, ◌∙◌, subst, arith}
 use Rattle.std.specs.Prelude.{slice_get, option_map, option_and_then}
 use Rattle.std.specs.List.{AllByRecursion}
 use Rattle.event_words.specs.declared.shape.Shape.{Shape}
@@ -9,10 +9,11 @@ use Rattle.event_words.specs.declared.record.LoggedEvent.{LoggedEvent}
 use Rattle.event_words.specs.Word.{word_of, event_at as event_of_word}
 use Rattle.event_words.specs.Valid.{IsValidEvent}
 use Rattle.event_words.specs.Runs.{IsEventWord, run, run_from, logged_first, logged_from}
-use Rattle.unit_core.specs.Units.{UnitState, unit_at_reset, event_step, decoded_step}
+use Rattle.unit_core.specs.Units.{FabricState, fabric_at_reset, event_step, decoded_step}
 use Rattle.unit_core.specs.Fabrics.{state_after_word, reply_to_word}
-use Rattle.unit_core.specs.Histories.{after_event, units_at, event_at, reply_at, with_event, events_of_words, history_of, logged_in}
-use Rattle.history_laws.proofs.EventWords.{HasEvent, word_event, event_at_word}
+use Rattle.unit_core.specs.Histories.{History, after_event, units_at, aims_after_event, aims_at, event_at, reply_at, with_event, events_of_words, history_of, logged_in}
+use Rattle.event_words.proofs.EventWords.{HasEvent, word_event}
+use Rattle.event_words.proofs.Runs.{event_at-word_of}
 
 -- ---- events
 
@@ -41,55 +42,68 @@ pub event_at_words : (shapes : List Shape) (words : List ℕ) → AllByRecursion
 event_at_words shapes words all k w e q r = events_at_words words all k ∙ ap (option_and_then event_of_word) q ∙ r
 
 pub event_at_word_of : (shapes : List Shape) (words : List ℕ) → AllByRecursion IsEventWord words → (k : ℕ) (e : Event) → IsValidEvent e → slice_get words k ≡ Some (word_of e) → event_at (history_of shapes words) k ≡ Some e
-event_at_word_of shapes words all k e valid q = event_at_words shapes words all k (word_of e) e q (event_at_word e valid)
+event_at_word_of shapes words all k e valid q = event_at_words shapes words all k (word_of e) e q (event_at-word_of e valid)
 
--- ---- units
+-- ---- the fabric
 
-abbrev after_word_at : ℕ → List UnitState → Option ℕ → List UnitState
-after_word_at k us None = us
-after_word_at k us (Some w) = state_after_word us k w
+-- the fabric before the event at a place
+abbrev pub fabric_at : History → ℕ → FabricState
+fabric_at h k = record { units = units_at h k; aims = aims_at h k }
 
-one_more : (j : ℕ) (us : List UnitState) (words : List ℕ) (k : ℕ)
-    → run_from state_after_word j us (take (suc k) words) ≡ after_word_at (j + k) (run_from state_after_word j us (take k words)) (slice_get words k)
-one_more j us [] zero = refl
-one_more j us [] (suc k) = refl
-one_more j us (w ∷ ws) zero = let q : j ≡ j + 0 = omega arith in ap (λ n. state_after_word us n w) q
-one_more j us (w ∷ ws) (suc k) =
+abbrev after_word_at : ℕ → FabricState → Option ℕ → FabricState
+after_word_at k f None = f
+after_word_at k f (Some w) = state_after_word f k w
+
+one_more : (j : ℕ) (f : FabricState) (words : List ℕ) (k : ℕ)
+    → run_from state_after_word j f (take (suc k) words) ≡ after_word_at (j + k) (run_from state_after_word j f (take k words)) (slice_get words k)
+one_more j f [] zero = refl
+one_more j f [] (suc k) = refl
+one_more j f (w ∷ ws) zero = let q : j ≡ j + 0 = omega arith in ap (λ n. state_after_word f n w) q
+one_more j f (w ∷ ws) (suc k) =
     let q : suc j + k ≡ j + suc k = omega arith in
-    one_more (suc j) (state_after_word us j w) ws k
-    ∙ ap (λ n. after_word_at n (run_from state_after_word (suc j) (state_after_word us j w) (take k ws)) (slice_get ws k)) q
+    one_more (suc j) (state_after_word f j w) ws k
+    ∙ ap (λ n. after_word_at n (run_from state_after_word (suc j) (state_after_word f j w) (take k ws)) (slice_get ws k)) q
 
-same_units : (k : ℕ) (us : List UnitState) (o : Option Event) → after_event k us o ≡ (decoded_step k us o).0
-same_units k us None = refl
-same_units k us (Some e) = refl
+abbrev after_event_at : ℕ → FabricState → Option Event → FabricState
+after_event_at k f o = record { units = after_event k f.aims f.units o; aims = aims_after_event f.aims o }
 
-same_step : (k : ℕ) (us : List UnitState) (o : Option ℕ) → after_event k us (option_and_then event_of_word o) ≡ after_word_at k us o
-same_step k us None = refl
-same_step k us (Some w) = same_units k us (event_of_word w)
+same_fabric : (k : ℕ) (f : FabricState) (o : Option Event) → after_event_at k f o ≡ (decoded_step k f o).0
+same_fabric k f None = refl
+same_fabric k f (Some e) = refl
 
--- The units before a place are those after the words before it.
-pub units_at_words : (shapes : List Shape) (words : List ℕ) → AllByRecursion IsEventWord words → (k : ℕ) → units_at (history_of shapes words) k ≡ run state_after_word (map unit_at_reset shapes) (take k words)
-units_at_words shapes words all zero = refl
-units_at_words shapes words all (suc k) =
-    let us = run state_after_word (map unit_at_reset shapes) (take k words) in
+same_step : (k : ℕ) (f : FabricState) (o : Option ℕ) → after_event_at k f (option_and_then event_of_word o) ≡ after_word_at k f o
+same_step k f None = refl
+same_step k f (Some w) = same_fabric k f (event_of_word w)
+
+-- The fabric before a place is that after the words before it.
+pub fabric_at_words : (shapes : List Shape) (words : List ℕ) → AllByRecursion IsEventWord words → (k : ℕ) → fabric_at (history_of shapes words) k ≡ run state_after_word (fabric_at_reset shapes) (take k words)
+fabric_at_words shapes words all zero = refl
+fabric_at_words shapes words all (suc k) =
+    let f = run state_after_word (fabric_at_reset shapes) (take k words) in
     let z : k ≡ 0 + k = omega arith in
-    ap (after_event k (units_at (history_of shapes words) k)) (events_at_words words all k)
-    ∙ ap (λ vs. after_event k vs (option_and_then event_of_word (slice_get words k))) (units_at_words shapes words all k)
-    ∙ same_step k us (slice_get words k)
-    ∙ ap (λ n. after_word_at n us (slice_get words k)) z
-    ∙ sym (one_more 0 (map unit_at_reset shapes) words k)
+    ap (after_event_at k (fabric_at (history_of shapes words) k)) (events_at_words words all k)
+    ∙ ap (λ g. after_event_at k g (option_and_then event_of_word (slice_get words k))) (fabric_at_words shapes words all k)
+    ∙ same_step k f (slice_get words k)
+    ∙ ap (λ n. after_word_at n f (slice_get words k)) z
+    ∙ sym (one_more 0 (fabric_at_reset shapes) words k)
+
+pub units_at_words : (shapes : List Shape) (words : List ℕ) → AllByRecursion IsEventWord words → (k : ℕ) → units_at (history_of shapes words) k ≡ (run state_after_word (fabric_at_reset shapes) (take k words)).units
+units_at_words shapes words all k = ap (λ (f : FabricState). f.units) (fabric_at_words shapes words all k)
+
+pub aims_at_words : (shapes : List Shape) (words : List ℕ) → AllByRecursion IsEventWord words → (k : ℕ) → aims_at (history_of shapes words) k ≡ (run state_after_word (fabric_at_reset shapes) (take k words)).aims
+aims_at_words shapes words all k = ap (λ (f : FabricState). f.aims) (fabric_at_words shapes words all k)
 
 -- ---- replies
 
 -- The reply at a place is that to the word at the place.
 pub reply_at_words : (shapes : List Shape) (words : List ℕ) → AllByRecursion IsEventWord words → (k w : ℕ) → slice_get words k ≡ Some w
-    → reply_at (history_of shapes words) k ≡ Some (reply_to_word (run state_after_word (map unit_at_reset shapes) (take k words)) k w)
+    → reply_at (history_of shapes words) k ≡ Some (reply_to_word (run state_after_word (fabric_at_reset shapes) (take k words)) k w)
 reply_at_words shapes words all k w q =
     let e = word_at_place words all k w q in
-    let us = run state_after_word (map unit_at_reset shapes) (take k words) in
-    ap (option_map (λ (e : Event). (event_step k (units_at (history_of shapes words) k) e).1)) (event_at_words shapes words all k w e.event q e.back)
-    ∙ ap (λ vs. Some (event_step k vs e.event).1) (units_at_words shapes words all k)
-    ∙ ap (λ o. Some (decoded_step k us o).1) (sym e.back)
+    let f = run state_after_word (fabric_at_reset shapes) (take k words) in
+    ap (option_map (λ (e : Event). (event_step k (aims_at (history_of shapes words) k) (units_at (history_of shapes words) k) e).1)) (event_at_words shapes words all k w e.event q e.back)
+    ∙ ap (λ (g : FabricState). Some (event_step k g.aims g.units e.event).1) (fabric_at_words shapes words all k)
+    ∙ ap (λ o. Some (decoded_step k f o).1) (sym e.back)
 
 -- ---- what is logged
 
@@ -97,47 +111,47 @@ abbrev pub entry : ℕ → Option Event → Option Reply → Option LoggedEvent
 entry k (Some e) (Some r) = Some (record { place = k; event = e; reply = r })
 entry k _ _ = None
 
-logged_at : (j : ℕ) (us : List UnitState) (words : List ℕ) → AllByRecursion IsEventWord words → (k : ℕ)
-    → slice_get (logged_from state_after_word reply_to_word j us words) k
-    ≡ entry (j + k) (option_and_then event_of_word (slice_get words k)) (option_map (reply_to_word (run_from state_after_word j us (take k words)) (j + k)) (slice_get words k))
-logged_at j us [] all k = refl
-logged_at j us (w ∷ ws) all zero =
+logged_at : (j : ℕ) (f : FabricState) (words : List ℕ) → AllByRecursion IsEventWord words → (k : ℕ)
+    → slice_get (logged_from state_after_word reply_to_word j f words) k
+    ≡ entry (j + k) (option_and_then event_of_word (slice_get words k)) (option_map (reply_to_word (run_from state_after_word j f (take k words)) (j + k)) (slice_get words k))
+logged_at j f [] all k = refl
+logged_at j f (w ∷ ws) all zero =
     let e = word_event w all.0 in
     let z : j ≡ j + 0 = omega arith in
-    subst (λ o. slice_get (logged_first j (reply_to_word us j w) o (logged_from state_after_word reply_to_word (suc j) (state_after_word us j w) ws)) 0 ≡ entry (j + 0) o (Some (reply_to_word us (j + 0) w))) (sym e.back)
-    (ap (λ n. Some (record { place = n; event = e.event; reply = reply_to_word us n w })) z)
-logged_at j us (w ∷ ws) all (suc k) =
+    subst (λ o. slice_get (logged_first j (reply_to_word f j w) o (logged_from state_after_word reply_to_word (suc j) (state_after_word f j w) ws)) 0 ≡ entry (j + 0) o (Some (reply_to_word f (j + 0) w))) (sym e.back)
+    (ap (λ n. Some (record { place = n; event = e.event; reply = reply_to_word f n w })) z)
+logged_at j f (w ∷ ws) all (suc k) =
     let e = word_event w all.0 in
     let q : suc j + k ≡ j + suc k = omega arith in
-    ap (λ o. slice_get (logged_first j (reply_to_word us j w) o (logged_from state_after_word reply_to_word (suc j) (state_after_word us j w) ws)) (suc k)) e.back
-    ∙ logged_at (suc j) (state_after_word us j w) ws all.1 k
-    ∙ ap (λ n. entry n (option_and_then event_of_word (slice_get ws k)) (option_map (reply_to_word (run_from state_after_word (suc j) (state_after_word us j w) (take k ws)) n) (slice_get ws k))) q
+    ap (λ o. slice_get (logged_first j (reply_to_word f j w) o (logged_from state_after_word reply_to_word (suc j) (state_after_word f j w) ws)) (suc k)) e.back
+    ∙ logged_at (suc j) (state_after_word f j w) ws all.1 k
+    ∙ ap (λ n. entry n (option_and_then event_of_word (slice_get ws k)) (option_map (reply_to_word (run_from state_after_word (suc j) (state_after_word f j w) (take k ws)) n) (slice_get ws k))) q
 
-length_from : (j : ℕ) (us : List UnitState) (words : List ℕ) → AllByRecursion IsEventWord words → length (logged_from state_after_word reply_to_word j us words) ≡ length words
-length_from j us [] all = refl
-length_from j us (w ∷ ws) all =
+length_from : (j : ℕ) (f : FabricState) (words : List ℕ) → AllByRecursion IsEventWord words → length (logged_from state_after_word reply_to_word j f words) ≡ length words
+length_from j f [] all = refl
+length_from j f (w ∷ ws) all =
     let e = word_event w all.0 in
-    ap (λ o. length (logged_first j (reply_to_word us j w) o (logged_from state_after_word reply_to_word (suc j) (state_after_word us j w) ws))) e.back
-    ∙ ap suc (length_from (suc j) (state_after_word us j w) ws all.1)
+    ap (λ o. length (logged_first j (reply_to_word f j w) o (logged_from state_after_word reply_to_word (suc j) (state_after_word f j w) ws))) e.back
+    ∙ ap suc (length_from (suc j) (state_after_word f j w) ws all.1)
 
 -- There is an entry for each word.
 pub length_logged : (shapes : List Shape) (words : List ℕ) → AllByRecursion IsEventWord words → length (logged_in shapes words) ≡ length words
-length_logged shapes words all = length_from 0 (map unit_at_reset shapes) words all
+length_logged shapes words all = length_from 0 (fabric_at_reset shapes) words all
 
 -- The entry of a place has the place, its event and its reply, and there are no others.
 pub logged_in_at : (shapes : List Shape) (words : List ℕ) → AllByRecursion IsEventWord words → (k : ℕ)
     → slice_get (logged_in shapes words) k ≡ entry k (event_at (history_of shapes words) k) (reply_at (history_of shapes words) k)
 logged_in_at shapes words all k =
     let z : 0 + k ≡ k = omega arith in
-    let us = map unit_at_reset shapes in
-    logged_at 0 us words all k
-    ∙ ap (λ n. entry n (option_and_then event_of_word (slice_get words k)) (option_map (reply_to_word (run state_after_word us (take k words)) n) (slice_get words k))) z
-    ∙ ap (λ o. entry k o (option_map (reply_to_word (run state_after_word us (take k words)) k) (slice_get words k))) (sym (events_at_words words all k))
+    let f = fabric_at_reset shapes in
+    logged_at 0 f words all k
+    ∙ ap (λ n. entry n (option_and_then event_of_word (slice_get words k)) (option_map (reply_to_word (run state_after_word f (take k words)) n) (slice_get words k))) z
+    ∙ ap (λ o. entry k o (option_map (reply_to_word (run state_after_word f (take k words)) k) (slice_get words k))) (sym (events_at_words words all k))
     ∙ ap (entry k (event_at (history_of shapes words) k)) (sym (reply_there (slice_get words k) refl))
   where
-    reply_there : (o : Option ℕ) → slice_get words k ≡ o → reply_at (history_of shapes words) k ≡ option_map (reply_to_word (run state_after_word (map unit_at_reset shapes) (take k words)) k) o
+    reply_there : (o : Option ℕ) → slice_get words k ≡ o → reply_at (history_of shapes words) k ≡ option_map (reply_to_word (run state_after_word (fabric_at_reset shapes) (take k words)) k) o
     reply_there None q =
-        ap (option_map (λ (e : Event). (event_step k (units_at (history_of shapes words) k) e).1)) (events_at_words words all k ∙ ap (option_and_then event_of_word) q)
+        ap (option_map (λ (e : Event). (event_step k (aims_at (history_of shapes words) k) (units_at (history_of shapes words) k) e).1)) (events_at_words words all k ∙ ap (option_and_then event_of_word) q)
     reply_there (Some w) q = reply_at_words shapes words all k w q
 
 -- What an entry at an index says of the history.

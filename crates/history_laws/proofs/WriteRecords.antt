@@ -31,9 +31,7 @@ same_write u c i v (events.RegWrite u' c' i' v') h =
     let r : i ≡ i' = eqb-true i i' three.0 in
     let s : v ≡ v' = eqb-true v v' three.1 in
     cc
-same_write u c i v (events.RegRead u' c' i') h = absurd (let n : false ≡ true = h in cc)
-same_write u c i v (events.Submit u' c' a') h = absurd (let n : false ≡ true = h in cc)
-same_write u c i v (events.Judge u' c' p') h = absurd (let n : false ≡ true = h in cc)
+same_write u c i v _ h = absurd (let n : false ≡ true = h in cc)
 
 pub same_read : (u c i : ℕ) (e : Event) → same_event (events.RegRead u c i) e ≡ true → e ≡ events.RegRead u c i
 same_read u c i (events.RegRead u' c' i') h =
@@ -43,9 +41,7 @@ same_read u c i (events.RegRead u' c' i') h =
     let q : c ≡ c' = eqb-true c c' two.0 in
     let r : i ≡ i' = eqb-true i i' two.1 in
     cc
-same_read u c i (events.RegWrite u' c' i' v') h = absurd (let n : false ≡ true = h in cc)
-same_read u c i (events.Submit u' c' a') h = absurd (let n : false ≡ true = h in cc)
-same_read u c i (events.Judge u' c' p') h = absurd (let n : false ≡ true = h in cc)
+same_read u c i _ h = absurd (let n : false ≡ true = h in cc)
 
 none_some : {A : Type 0} {P : Type 0} (a : A) → None ≡ Some a → P
 none_some a h = absurd (let n : None ≡ Some a = h in cc)

@@ -1,3 +1,4 @@
+-- Guarded bits stay guarded and never change.
 use Rattle.std.specs.Prelude.{◌≡◌, ℕ, ◌≤◌, true, Some, All}
 use Rattle.event_words.specs.Valid.{IsValidShape}
 use Rattle.unit_core.specs.Units.{UnitState}

@@ -1,4 +1,5 @@
 pub mod Queues
+pub mod Aims
 pub mod Windows
 pub mod Guards
 pub mod Tickets

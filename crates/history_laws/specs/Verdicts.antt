@@ -1,3 +1,4 @@
+-- A verdict is the decision of the state at its place.
 use Rattle.std.specs.Prelude.{◌≡◌, ℕ, ◌<◌, Some}
 use Rattle.event_words.specs.declared.access.Access.{Access}
 use Rattle.event_words.specs.declared.reply.Decision.{Decision}

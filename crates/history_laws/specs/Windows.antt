@@ -1,3 +1,4 @@
+-- No verdict on a requester falls inside a drained window of it.
 use Rattle.std.specs.Prelude.{ℕ}
 use Rattle.unit_core.specs.Histories.{History}
 use Rattle.unit_core.specs.Windows.{IsInDrainedWindow, IsVerdictOn}

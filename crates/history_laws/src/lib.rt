@@ -15,6 +15,7 @@ ghost use Rattle.history_laws.specs.OneHistory.{LawOneHistory};
 ghost use Rattle.history_laws.specs.Live.{LawLive};
 ghost use Rattle.history_laws.specs.EqualReports.{LawReports};
 ghost use Rattle.history_laws.specs.Unwritten.{LawUnwritten};
+ghost use Rattle.history_laws.specs.Aims.{LawAims};
 
 /// In every state each queued submission has a known, stalled requester, and a queue has at most its
 /// size.
@@ -42,6 +43,11 @@ pub fn law_tickets()
 /// A verdict is what the registers of its place decide on its submission's access.
 pub fn law_verdicts()
     ensures { LawVerdicts }
+{}
+
+/// Before each place a caller aims at the address of its last Aim, and at 0 where it made none.
+pub fn law_aims()
+    ensures { LawAims }
 {}
 
 /// What a program may promise of each of its histories: no verdict in a drained window, `Busy` only where

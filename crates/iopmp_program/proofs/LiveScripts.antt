@@ -1,5 +1,5 @@
 -- The script of an update, and why an input has none.
-use Rattle.std.proofs.Common.{◌≡◌, ℕ, true, List, [], ◌∷◌, ◌++◌, map, Ok, Err, Result, None, Some, inl, inr, refl, ◌∙◌, subst, arith}
+use Rattle.std.proofs.Common.{◌≡◌, ℕ, List, [], ◌∷◌, ◌++◌, map, Ok, Err, Result, None, Some, inl, inr, refl, ◌∙◌, subst, arith}
 use Rattle.std.specs.String.{string_bytes}
 use Rattle.std.specs.List.{AllByRecursion}
 use Rattle.event_words.specs.Sections.{SectionOf, IsValidSection, NamesUnits}
@@ -12,13 +12,14 @@ use Rattle.script_reader.specs.LiveLanes.{lanes_at, AreLiveLanes}
 use Rattle.policy_compiler.specs.Images.{ImageOf, image_of}
 use Rattle.policy_compiler.proofs.ImageSections.{image_is_valid, image_names_unit_0}
 use Rattle.update_planner.specs.Plans.{rewrite, rewrites, plan_commands}
-use Rattle.iopmp_program.specs.declared.printing.NoText.{NoText}
-use Rattle.iopmp_program.specs.declared.printing.NoText.TheVariants.{Refused, NoMemory}
-use Rattle.iopmp_program.specs.declared.running.Played.TheVariants as played
-use Rattle.iopmp_program.specs.Updates.{UpdateOf, IsUpdate, IsNoUpdate}
-use Rattle.iopmp_program.specs.LiveRuns.{live_script}
+use Rattle.iopmp_program.specs.declared.answer.NoAnswer.{NoAnswer}
+use Rattle.iopmp_program.specs.declared.answer.NoAnswer.TheVariants.{Refused, NoMemory}
+use Rattle.iopmp_program.specs.AnswerForms.{HasLine, GivesOr}
 use Rattle.iopmp_program.specs.FaultLines.{refusal_line}
-use Rattle.iopmp_program.specs.Givings.{HasLine, GivesOr, IsReadable, Plans, IsPlanOr, IsLanesOr, IsAffordable, NeedsMoreEvents, IsAffordableOr, IsScriptOfUpdate, IsScriptOfUpdateOr, IsScript, IsPlayedLine}
+use Rattle.iopmp_program.specs.UpdateInputs.{UpdateOf, IsReadable, HasNoPlan}
+use Rattle.iopmp_program.specs.PlanCommand.{Plans}
+use Rattle.iopmp_program.specs.LiveCommand.{live_script, NeedsMoreEvents}
+use Rattle.iopmp_program.specs.UpdateScripts.{IsLanesOr, IsAffordable, IsAffordableOr, IsScriptOfUpdate, IsScriptOfUpdateOr}
 
 -- ---- the script is well-formed
 
@@ -40,7 +41,7 @@ formed u plan lanes good p lane = record {
   few_units = omega arith;
   shapes = (good.old.shape.valid, tt);
   few_lanes = let few = lane.few in omega arith;
-  boot = image_is_valid u.old good.old p.fits.old_fits;
+  boot = image_is_valid u.old good.old p.old_fits;
   boot_units = image_names_unit_0 u.old;
   lanes = (subst IsValidSection p.is p.valid, lane.valid);
   lanes_units = (plan_on_0 (image_of u.old) (image_of u.new) u.polls, lane.units_there);
@@ -48,47 +49,31 @@ formed u plan lanes good p lane = record {
 
 -- ---- the answers of the parts
 
-pub plan_refused : (u : UpdateOf) (e : NoText) → IsPlanOr u (Err e) → IsScriptOfUpdateOr u (Err e)
+pub plan_refused : (u : UpdateOf) (e : NoAnswer) → (let r : Result SectionOf NoAnswer = Err e in GivesOr (Plans u) (HasNoPlan u) r) → IsScriptOfUpdateOr u (Err e)
 plan_refused u (Refused line) h = inl h
 plan_refused u NoMemory h = tt
 
-pub lanes_refused : (u : UpdateOf) (plan : SectionOf) (e : NoText) → Plans u plan → IsLanesOr u (Err e) → IsScriptOfUpdateOr u (Err e)
+pub lanes_refused : (u : UpdateOf) (plan : SectionOf) (e : NoAnswer) → Plans u plan → IsLanesOr u (Err e) → IsScriptOfUpdateOr u (Err e)
 lanes_refused u plan (Refused line) p h = inr (inl (record { plans = p.plans; lanes = h }))
 lanes_refused u plan NoMemory p h = tt
 
-pub script_given : (u : UpdateOf) (plan : SectionOf) (lanes : List SectionOf) (script : ScriptOf) (r : Result ScriptOf NoText) → Plans u plan → lanes_at u.first_line u.lanes ≡ Ok lanes → AreLiveLanes lanes
+pub script_given : (u : UpdateOf) (plan : SectionOf) (lanes : List SectionOf) (script : ScriptOf) (r : Result ScriptOf NoAnswer) → Plans u plan → lanes_at u.first_line u.lanes ≡ Ok lanes → AreLiveLanes lanes
     → script ≡ live_script u lanes → IsAffordableOr script r → IsScriptOfUpdateOr u r
 script_given u plan lanes script (Ok given) p l good is a = by (subst (λ s. IsAffordable s given) is a)
   where
     by : IsAffordable (live_script u lanes) given → IsScriptOfUpdate u given
-    by b = record { lanes = lanes; plans = p.plans; fits = p.fits; lanes_are = l; good = good; is = b.is; few = b.few }
+    by b = record { section = plan; lanes = lanes; plan = p; lanes_are = l; good = good; is = b.is; few = b.few }
 script_given u plan lanes script (Err (Refused line)) p l good is a =
-    inr (inr (record { lanes = lanes; plans = p.plans; lanes_are = l; needs = subst (λ s. NeedsMoreEvents s (string_bytes line)) is a }))
+    inr (inr (record { lanes = lanes; has = record { plans = p.plans; lanes_are = l }; needs = subst (λ s. NeedsMoreEvents s (string_bytes line)) is a }))
 script_given u plan lanes script (Err NoMemory) p l good is a = tt
-
-abbrev GivesLive : List ℕ → Result ScriptOf NoText → Type 0
-GivesLive bytes = GivesOr (IsScript played.Update bytes) (IsPlayedLine played.Update bytes)
-
-pub update_refused : (bytes : List ℕ) (e : NoText) → (let r : Result UpdateOf NoText = Err e in GivesOr (IsUpdate true bytes) (IsNoUpdate true bytes) r) → GivesLive bytes (Err e)
-update_refused bytes (Refused line) h = inl (inl h)
-update_refused bytes NoMemory h = tt
-
-pub live_given : (bytes : List ℕ) (u : UpdateOf) (r : Result ScriptOf NoText) → IsUpdate true bytes u → IsReadable u → IsScriptOfUpdateOr u r → GivesLive bytes r
-live_given bytes u (Ok script) is good h = record { update = u; stands_for = is; readable = good; plays = h }
-live_given bytes u (Err (Refused line)) is good (inl h) = inl (inr (record { update = u; error = h.error; is = is; fault = h.fault; named = h.named }))
-live_given bytes u (Err (Refused line)) is good (inr (inl h)) =
-    inr (inl (record { update = u; bad = h.lanes.bad; is = is; plans = h.plans; fault = h.lanes.fault; named = h.lanes.named }))
-live_given bytes u (Err (Refused line)) is good (inr (inr h)) =
-    inr (inr (record { update = u; lanes = h.lanes; stands_for = record { is = is; plans = h.plans; lanes_are = h.lanes_are }; many = h.needs.many; named = h.needs.named }))
-live_given bytes u (Err NoMemory) is good h = tt
 
 -- ---- lanes
 
-lane_line : (u : UpdateOf) (error : ScriptError) (e : NoText) (read : Result (List SectionOf) Bad) → lanes_at u.first_line u.lanes ≡ read → Reads (Err error) read → HasLine e (refusal_line error) → IsLanesOr u (Err e)
+lane_line : (u : UpdateOf) (error : ScriptError) (e : NoAnswer) (read : Result (List SectionOf) Bad) → lanes_at u.first_line u.lanes ≡ read → Reads (Err error) read → HasLine e (refusal_line error) → IsLanesOr u (Err e)
 lane_line u (BadLine line code) (Refused text) read is h named = record { bad = record { line = line; code = code }; fault = is ∙ h; named = named }
 lane_line u (TooManyEvents need have) (Refused text) read is h named = absurd h
 lane_line u refusals.NoMemory (Refused text) read is h named = absurd (let n : None ≡ Some (string_bytes text) = named in cc)
 lane_line u error NoMemory read is h named = tt
 
-pub lanes_or : (u : UpdateOf) (text : List ℕ) (error : ScriptError) (e : NoText) → text ≡ u.lanes → Reads (Err error) (lanes_at u.first_line text) → HasLine e (refusal_line error) → IsLanesOr u (Err e)
+pub lanes_or : (u : UpdateOf) (text : List ℕ) (error : ScriptError) (e : NoAnswer) → text ≡ u.lanes → Reads (Err error) (lanes_at u.first_line text) → HasLine e (refusal_line error) → IsLanesOr u (Err e)
 lanes_or u text error e same h named = lane_line u error e _ refl (subst (λ t. Reads (Err error) (lanes_at u.first_line t)) same h) named

@@ -4,12 +4,12 @@ use Rattle.std.specs.Fmt.{decimal}
 use Rattle.event_words.specs.declared.shape.Shape.{Shape}
 use Rattle.event_words.specs.Texts.{hexadecimal}
 use Rattle.unit_core.specs.Histories.{logged_in, units_after}
-use Rattle.iopmp_program.specs.declared.replay.Replay.{Replay}
+use Rattle.iopmp_program.specs.declared.reports.replay.Replay.{Replay}
 
 -- The events with their replies, and the units after the last event, of words on units of these shapes.
 pub record IsReplay (replay : Replay) (shapes : List Shape) (words : List ℕ) : Type 0 where
   pub events : replay.events.items ≡ logged_in shapes words
-  pub units : replay.units.units ≡ units_after shapes words
+  pub units : replay.units.state.units ≡ units_after shapes words
 
 -- a unit's line from its four error registers
 abbrev pub unit_line_of : ℕ → List ℕ → List ℕ

@@ -1,51 +1,56 @@
-// All that the program does, over any source and sink.
-ghost use Rattle.std.specs.Prelude.{◌≡◌, ℕ, map, None, Some};
+// All that the program does, over any source and sink: the words, the input, the answer, and the writing of it.
+ghost use Rattle.std.specs.Prelude.{◌≡◌, map, false, Some};
 ghost use Rattle.std.specs.String.{string_bytes};
-ghost use Rattle.iopmp_program.specs.declared.command.Command.TheVariants as commands;
-ghost use Rattle.iopmp_program.specs.Commands.{command_of};
-ghost use Rattle.iopmp_program.specs.FaultLines.{usage_line};
-ghost use Rattle.iopmp_program.specs.Endings.{streams, EndsUsage};
-ghost use Rattle.iopmp_program.specs.ScriptRuns.{EndsRun, CompletesRun};
-ghost use Rattle.iopmp_program.specs.Compiles.{EndsCompile, CompletesCompile};
-ghost use Rattle.iopmp_program.specs.PlanTexts.{EndsPlan, CompletesPlan};
-ghost use Rattle.iopmp_program.specs.LiveRuns.{EndsLive, CompletesLive};
-ghost use Rattle.iopmp_program.specs.Gens.{EndsGen, CompletesUnread};
-ghost use Rattle.iopmp_program.specs.Soaks.{EndsSoak};
-ghost use Rattle.iopmp_program.specs.Prints.{sink_change, Refuses};
+ghost use Rattle.iopmp_program.specs.CommandWords.{command_of};
+ghost use Rattle.iopmp_program.specs.CommandTables.{reads};
+ghost use Rattle.iopmp_program.specs.CallEndings.{change, Ends, EndsCommand, Completes, LeavesSource, LeavesSink};
 
-use crate::command::{Command, command_in};
-use crate::fault_line::usage_line;
-use crate::generating::gen_command;
-use crate::printing::{Printed, print_command};
-use crate::running::{Played, play_command};
-use crate::soaking::soak_command;
+use crate::answer::{Answer, NoAnswer};
+use crate::commands::answer;
+use crate::edges::{read_input, without_history, write_answer};
+use crate::refusals::fault_line::{too_long_line, usage_line};
 use crate::status::{Outcome, Status};
+use crate::subcommand::{Subcommand, command_in};
 use checker_workers::Gate;
-use edge_io::{Sink, Source, write_all};
+use edge_io::{ReadError, Sink, Source};
 use std::alloc::Global;
 use std::thread::Threads;
 
-/// The most bytes of an input.
-pub const MOST_BYTES: usize = 4194304;
-
-/// A status whose call made no history, or none that is answered.
-pub fn without_history(status: Status) -> Outcome
-    ensures { result ≡ record { status = status; history = None } }
+/// Reads the input of a command, answers it, and writes the answer.
+fn call_command<R: Threads + Sync, S: Source, K: Sink, G: Gate + Sync>(
+    rt: &R,
+    alloc: Global,
+    command: Subcommand,
+    source: &mut S,
+    sink: &mut K,
+    gate: &G,
+) -> Outcome
+    ensures ends { EndsCommand command (change S.left S.faults source.old source.new)
+        (change K.taken K.faults sink.old sink.new) result.status result.history }
+    ensures unread { reads command ≡ false → source.new ≡ source.old }
+    ensures unwritten { LeavesSink result.status → sink.new ≡ sink.old }
 {
-    Outcome {
+    let bytes = match read_input(alloc, command, source) {
+        Ok(bytes) => bytes,
+        Err(ReadError::Fault) => return without_history(Status::ReadFault),
+        Err(ReadError::NoMemory) => return without_history(Status::NoMemory),
+        Err(ReadError::TooLong) => {
+            return write_answer(sink, Status::TooLong, None, too_long_line().as_bytes());
+        }
+    };
+    let given = match answer(rt, alloc, command, &bytes, gate) {
+        Ok(given) => given,
+        Err(NoAnswer::Refused(line)) => {
+            return write_answer(sink, Status::BadInput, None, line.as_bytes());
+        }
+        Err(NoAnswer::NoMemory) => return without_history(Status::NoMemory),
+    };
+    let Answer {
         status,
-        history: None,
-    }
-}
-
-/// Writes a fault line.
-pub fn refuse<K: Sink>(sink: &mut K, status: Status, line: &[u8]) -> Outcome
-    ensures { Refuses (sink_change (K.taken sink.old) (K.taken sink.new) (K.faults sink.old) (K.faults sink.new)) status line.now result.status result.history }
-{
-    match write_all(sink, line) {
-        Ok(()) => without_history(status),
-        Err(_) => without_history(Status::WriteFault),
-    }
+        history,
+        text,
+    } = given;
+    write_answer(sink, status, history, &text)
 }
 
 /// Does all that the program does. `words` are those after the program's name.
@@ -57,49 +62,22 @@ pub fn top<R: Threads + Sync, S: Source, K: Sink, G: Gate + Sync>(
     sink: &mut K,
     gate: &G,
 ) -> Outcome
-    ensures usage { command_of (map string_bytes words.now) ≡ None →
-        EndsUsage (streams (S.left source.old) (S.left source.new) (S.faults source.old) (S.faults source.new) (K.taken sink.old) (K.taken sink.new) (K.faults sink.old) (K.faults sink.new)) result.status result.history }
-    ensures unread { command_of (map string_bytes words.now) ≡ None → source.new ≡ source.old }
-
-    ensures run { command_of (map string_bytes words.now) ≡ Some commands.Run →
-        EndsRun (streams (S.left source.old) (S.left source.new) (S.faults source.old) (S.faults source.new) (K.taken sink.old) (K.taken sink.new) (K.faults sink.old) (K.faults sink.new)) result.status result.history }
-    ensures run_completes { command_of (map string_bytes words.now) ≡ Some commands.Run →
-        CompletesRun (streams (S.left source.old) (S.left source.new) (S.faults source.old) (S.faults source.new) (K.taken sink.old) (K.taken sink.new) (K.faults sink.old) (K.faults sink.new)) result.status }
-
-    ensures compile { command_of (map string_bytes words.now) ≡ Some commands.Compile →
-        EndsCompile (streams (S.left source.old) (S.left source.new) (S.faults source.old) (S.faults source.new) (K.taken sink.old) (K.taken sink.new) (K.faults sink.old) (K.faults sink.new)) result.status result.history }
-    ensures compile_completes { command_of (map string_bytes words.now) ≡ Some commands.Compile →
-        CompletesCompile (streams (S.left source.old) (S.left source.new) (S.faults source.old) (S.faults source.new) (K.taken sink.old) (K.taken sink.new) (K.faults sink.old) (K.faults sink.new)) result.status }
-
-    ensures plan { command_of (map string_bytes words.now) ≡ Some commands.Plan →
-        EndsPlan (streams (S.left source.old) (S.left source.new) (S.faults source.old) (S.faults source.new) (K.taken sink.old) (K.taken sink.new) (K.faults sink.old) (K.faults sink.new)) result.status result.history }
-    ensures plan_completes { command_of (map string_bytes words.now) ≡ Some commands.Plan →
-        CompletesPlan (streams (S.left source.old) (S.left source.new) (S.faults source.old) (S.faults source.new) (K.taken sink.old) (K.taken sink.new) (K.faults sink.old) (K.faults sink.new)) result.status }
-
-    ensures live { command_of (map string_bytes words.now) ≡ Some commands.Live →
-        EndsLive (streams (S.left source.old) (S.left source.new) (S.faults source.old) (S.faults source.new) (K.taken sink.old) (K.taken sink.new) (K.faults sink.old) (K.faults sink.new)) result.status result.history }
-    ensures live_completes { command_of (map string_bytes words.now) ≡ Some commands.Live →
-        CompletesLive (streams (S.left source.old) (S.left source.new) (S.faults source.old) (S.faults source.new) (K.taken sink.old) (K.taken sink.new) (K.faults sink.old) (K.faults sink.new)) result.status }
-
-    ensures generated { (number : ℕ) → command_of (map string_bytes words.now) ≡ Some (commands.Gen number) →
-        EndsGen number (streams (S.left source.old) (S.left source.new) (S.faults source.old) (S.faults source.new) (K.taken sink.old) (K.taken sink.new) (K.faults sink.old) (K.faults sink.new)) result.status result.history }
-    ensures generated_unread { (number : ℕ) → command_of (map string_bytes words.now) ≡ Some (commands.Gen number) → source.new ≡ source.old }
-    ensures generated_completes { (number : ℕ) → command_of (map string_bytes words.now) ≡ Some (commands.Gen number) →
-        CompletesUnread (streams (S.left source.old) (S.left source.new) (S.faults source.old) (S.faults source.new) (K.taken sink.old) (K.taken sink.new) (K.faults sink.old) (K.faults sink.new)) result.status }
-
-    ensures soak { (number : ℕ) → command_of (map string_bytes words.now) ≡ Some (commands.Soak number) →
-        EndsSoak number (streams (S.left source.old) (S.left source.new) (S.faults source.old) (S.faults source.new) (K.taken sink.old) (K.taken sink.new) (K.faults sink.old) (K.faults sink.new)) result.status result.history }
-    ensures soak_unread { (number : ℕ) → command_of (map string_bytes words.now) ≡ Some (commands.Soak number) → source.new ≡ source.old }
-    ensures soak_completes { (number : ℕ) → command_of (map string_bytes words.now) ≡ Some (commands.Soak number) →
-        CompletesUnread (streams (S.left source.old) (S.left source.new) (S.faults source.old) (S.faults source.new) (K.taken sink.old) (K.taken sink.new) (K.faults sink.old) (K.faults sink.new)) result.status }
+    // how the call ends: by its words, what the source gave, and what the sink took
+    ensures ends { Ends (command_of (map string_bytes words.now))
+        (change S.left S.faults source.old source.new) (change K.taken K.faults sink.old sink.new)
+        result.status result.history }
+    // an input without a fault over streams that don't fail is answered, unless memory runs out
+    ensures completes { Completes (command_of (map string_bytes words.now))
+        (change S.left S.faults source.old source.new) (change K.taken K.faults sink.old sink.new)
+        result.status }
+    // `gen`, `soak` and words that are no command
+    ensures unread { LeavesSource (command_of (map string_bytes words.now)) →
+        source.new ≡ source.old }
+    // a failed source, or want of memory
+    ensures unwritten { LeavesSink result.status → sink.new ≡ sink.old }
 {
     match command_in(words) {
-        None => refuse(sink, Status::Usage, usage_line().as_bytes()),
-        Some(Command::Run) => play_command(rt, alloc, Played::Script, source, sink, gate),
-        Some(Command::Compile) => print_command(alloc, Printed::Image, source, sink),
-        Some(Command::Plan) => print_command(alloc, Printed::Plan, source, sink),
-        Some(Command::Live) => play_command(rt, alloc, Played::Update, source, sink, gate),
-        Some(Command::Gen(number)) => gen_command(alloc, number, sink),
-        Some(Command::Soak(number)) => soak_command(rt, alloc, number, sink, gate),
+        Some(command) => call_command(rt, alloc, command, source, sink, gate),
+        None => write_answer(sink, Status::Usage, None, usage_line().as_bytes()),
     }
 }

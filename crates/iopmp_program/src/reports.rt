@@ -1,124 +1,213 @@
 // The report of a history.
-ghost use Rattle.std.specs.Prelude.{◌≡◌, ◌++◌, ◌+◌, ◌<◌, ◌≤◌, ◌∷◌, [], length, flat_map, slice_get, Some, IfOk, OnOk};
+ghost use Rattle.std.specs.Prelude.{◌≡◌, ◌++◌, ◌+◌, ◌*◌, ◌<◌, ◌≤◌, ◌∷◌, [], length, flat_map, slice_get, codes, Some, IfOk, OnOk};
+ghost use Rattle.std.specs.Fmt.{decimal};
 ghost use Rattle.std.specs.List.{AllByRecursion};
-ghost use Rattle.std.specs.String.{string_bytes};
 ghost use Rattle.event_words.specs.Valid.{IsValidShape};
-ghost use Rattle.event_words.specs.Records.{section_end, events_by};
-ghost use Rattle.unit_core.specs.Reports.{event_line, section_line, section_lines, unit_lines, end_text, report_text};
+ghost use Rattle.event_words.specs.Runs.{logged_from, run_from};
+ghost use Rattle.unit_core.specs.Fabrics.{state_after_word, reply_to_word};
+ghost use Rattle.unit_core.specs.Reports.{event_line, section_lines, unit_lines, report_text};
 ghost use Rattle.iopmp_program.specs.Replays.{unit_line_of};
+ghost use Rattle.iopmp_program.specs.SectionEnds.{cursor_ends, end_lines};
 
-use crate::NoMemory;
-use crate::record::section_end;
-use crate::replay::{Replay, events_by, replay_words};
-use event_words::{LoggedEvent, Section, SectionEnd};
+mod cursors;
+pub mod replay;
+
+use crate::memory::NoMemory;
+use cursors::{note, push_ends, section_cursors};
+use event_words::{Line, LoggedEvent, Machine, Section, unpack};
 use script_reader::Script;
+use section_cursor::Cursor;
 use std::alloc::{AllocError, Global};
 use unit_core::Fabric;
 
-fn push_event(out: &mut String, logged: &LoggedEvent) -> Result<(), AllocError>
-    ensures { OnOk result (string_bytes out.new ≡ string_bytes out.old ++ event_line logged.now) }
+/// Makes the line of an event.
+fn put_event_line(line: &mut Line, logged: &LoggedEvent)
+    ensures { line.new ≡ event_line logged.now }
 {
-    let LoggedEvent {
-        place,
-        event,
-        reply,
-    } = *logged;
-    let caller = event.caller();
-    write!(out, "{place} {caller} {event} = {reply}\n")
+    line.clear();
+    line.put(b"\n");
+    line.put_reply(&logged.reply);
+    line.put(b" = ");
+    line.put_event(&logged.event);
+    line.put(b" ");
+    line.put_decimal(logged.event.caller() as u64);
+    line.put(b" ");
+    line.put_decimal(logged.place as u64);
 }
 
-fn push_events(out: &mut String, events: &[LoggedEvent]) -> Result<(), AllocError>
-    ensures { OnOk result (string_bytes out.new ≡ string_bytes out.old ++ flat_map event_line events.now) }
+fn push_event(out: &mut Vec<u8>, line: &mut Line, logged: &LoggedEvent) -> Result<(), AllocError>
+    ensures { OnOk result (out.new.items ≡ out.old.items ++ event_line logged.now) }
 {
-    for logged in events {
-        push_event(out, logged)?;
+    put_event_line(line, logged);
+    out.extend_from_slice(line.bytes())
+}
+
+/// Applies each word at its place, writes its event's line and notes it.
+fn push_history(
+    out: &mut Vec<u8>,
+    line: &mut Line,
+    units: &mut Fabric,
+    cursors: &mut [Cursor],
+    words: &[u64],
+) -> Result<(), AllocError>
+    requires next { units.old.next ≡ 0 }
+    requires places { units.old.places ≡ length words.now }
+    requires few { length words.now ≤ 1048576 }
+    ensures text { OnOk result (out.new.items ≡ out.old.items ++ flat_map event_line
+        (logged_from state_after_word reply_to_word 0 units.old.state words.now)) }
+    ensures units { OnOk result
+        (units.new.state ≡ run_from state_after_word 0 units.old.state words.now) }
+    ensures ends { OnOk result (cursor_ends 0 cursors.new [] ≡ cursor_ends 0 cursors.old
+        (logged_from state_after_word reply_to_word 0 units.old.state words.now)) }
+    ensures count { length cursors.new ≡ length cursors.old }
+{
+    for (place, word) in words.iter().enumerate() {
+        let place = place as u32;
+        let reply = units.apply(place, *word);
+        let Some(event) = unpack(*word) else {
+            continue;
+        };
+        let logged = LoggedEvent {
+            place,
+            event,
+            reply,
+        };
+        note(cursors, &logged);
+        push_event(out, line, &logged)?;
     }
     Ok(())
 }
 
-fn end_word(end: SectionEnd) -> &'static str
-    ensures { result.now ≡ end_text end }
-{
-    match end {
-        SectionEnd::Done => "done",
-        SectionEnd::Stopped => "stopped",
-    }
-}
-
-/// The line of a section that ended; none where its events are no record of it.
-fn push_end(out: &mut String, number: u8, end: Option<SectionEnd>) -> Result<(), AllocError>
-    ensures { OnOk result (string_bytes out.new ≡ string_bytes out.old ++ section_line number end) }
-{
-    let Some(end) = end else {
-        return Ok(());
-    };
-    let end = end_word(end);
-    write!(out, "section {number} {end}\n")
-}
-
-fn push_section(
-    out: &mut String,
-    alloc: Global,
-    events: &[LoggedEvent],
-    number: u8,
-    section: &Section,
+/// Writes the lines of the words' events, and then how each section ended by its cursor.
+fn push_noted(
+    out: &mut Vec<u8>,
+    line: &mut Line,
+    units: &mut Fabric,
+    cursors: &mut [Cursor],
+    words: &[u64],
 ) -> Result<(), AllocError>
-    ensures { OnOk result (string_bytes out.new ≡ string_bytes out.old ++ section_line number (section_end number section.now (events_by number events.now))) }
+    requires next { units.old.next ≡ 0 }
+    requires places { units.old.places ≡ length words.now }
+    requires few { length words.now ≤ 1048576 }
+    requires cursors { length cursors.old ≤ 17 }
+    ensures text { OnOk result (out.new.items ≡ out.old.items
+        ++ (flat_map event_line (logged_from state_after_word reply_to_word 0 units.old.state words.now)
+        ++ end_lines 0 (cursor_ends 0 cursors.old (logged_from state_after_word reply_to_word 0 units.old.state words.now)))) }
+    ensures units { OnOk result
+        (units.new.state ≡ run_from state_after_word 0 units.old.state words.now) }
 {
-    let own = events_by(alloc, number, events)?;
-    let end = section_end(alloc, number, &section.commands, &own)?;
-    push_end(out, number, end)
+    push_history(out, line, units, cursors, words)?;
+    push_ends(out, line, cursors)?;
+    Ok(())
 }
 
-fn push_lanes(
-    out: &mut String,
+/// Writes the lines of the words' events, and then how each section ended.
+fn push_events(
+    out: &mut Vec<u8>,
+    line: &mut Line,
     alloc: Global,
-    events: &[LoggedEvent],
+    units: &mut Fabric,
+    boot: &Section,
     lanes: &[Section],
+    words: &[u64],
 ) -> Result<(), AllocError>
-    requires { length lanes.now ≤ 16 }
-    ensures { OnOk result (string_bytes out.new ≡ string_bytes out.old ++ section_lines events.now 1 lanes.now) }
+    requires next { units.old.next ≡ 0 }
+    requires places { units.old.places ≡ length words.now }
+    requires few { length words.now ≤ 1048576 }
+    requires lanes { length lanes.now ≤ 16 }
+    ensures text { OnOk result (out.new.items ≡ out.old.items
+        ++ (flat_map event_line (logged_from state_after_word reply_to_word 0 units.old.state words.now)
+        ++ section_lines (logged_from state_after_word reply_to_word 0 units.old.state words.now) 0 (boot.now ∷ lanes.now))) }
+    ensures units { OnOk result
+        (units.new.state ≡ run_from state_after_word 0 units.old.state words.now) }
 {
-    for (i, section) in lanes.iter().enumerate() {
-        push_section(out, alloc, events, i as u8 + 1, section)?;
-    }
+    let mut cursors = section_cursors(alloc, boot, lanes)?;
+    push_noted(out, line, units, cursors.as_mut_slice(), words)?;
     Ok(())
 }
 
-fn push_unit(out: &mut String, unit: u8, words: [u32; 4]) -> Result<(), AllocError>
-    ensures { OnOk result (string_bytes out.new ≡ string_bytes out.old ++ unit_line_of unit words) }
+fn push_unit(
+    out: &mut Vec<u8>,
+    line: &mut Line,
+    unit: u8,
+    words: [u32; 4],
+) -> Result<(), AllocError>
+    ensures { OnOk result (out.new.items ≡ out.old.items ++ unit_line_of unit words) }
 {
     let [info, addr, addrh, id] = words;
-    write!(
-        out,
-        "unit {unit} 0x{info:x} 0x{addr:x} 0x{addrh:x} 0x{id:x}\n"
-    )
+    line.clear();
+    line.put(b"\n");
+    line.put_hexadecimal(id as u64);
+    line.put(b" ");
+    line.put_hexadecimal(addrh as u64);
+    line.put(b" ");
+    line.put_hexadecimal(addr as u64);
+    line.put(b" ");
+    line.put_hexadecimal(info as u64);
+    line.put(b" ");
+    line.put_decimal(unit as u64);
+    line.put(b"unit ");
+    out.extend_from_slice(line.bytes())
 }
 
-fn push_units(out: &mut String, units: &Fabric) -> Result<(), AllocError>
-    ensures { OnOk result (string_bytes out.new ≡ string_bytes out.old ++ unit_lines 0 units.now.units) }
+fn push_units(out: &mut Vec<u8>, line: &mut Line, units: &Fabric) -> Result<(), AllocError>
+    ensures { OnOk result (out.new.items ≡ out.old.items ++ unit_lines 0 units.now.state.units) }
 {
     for unit in 0..units.units() {
-        push_unit(out, unit, units.error_words(unit))?;
+        push_unit(out, line, unit, units.error_words(unit))?;
     }
     Ok(())
+}
+
+/// Room for the report of so many events, asked for once: an event's line has at most 68 bytes, and
+/// the other lines have at most 1024.
+fn report_room(count: usize) -> usize
+    requires { count ≤ 1048576 }
+    ensures { result ≡ count * 68 + 1024 }
+{
+    count * 68 + 1024
+}
+
+/// The first line.
+fn push_count(out: &mut Vec<u8>, line: &mut Line, count: usize) -> Result<(), AllocError>
+    ensures { OnOk result (out.new.items ≡
+        out.old.items ++ (codes "events " ++ (decimal count ++ codes "\n"))) }
+{
+    line.clear();
+    line.put(b"\n");
+    line.put_decimal(count as u64);
+    line.put(b"events ");
+    out.extend_from_slice(line.bytes())
 }
 
 /// The report of a history of the script: every event with its reply, how each section ended, and
 /// each unit's error registers after the last event.
+///
+/// The script has 1 to 4 valid shapes and at most 16 lanes. A legal history of a script that needs at
+/// most 1048576 events has no more words than that.
 pub fn report(alloc: Global, script: &Script, words: &[u64]) -> Result<Vec<u8>, NoMemory>
     requires count { (1 ≤ length script.now.shapes) × (length script.now.shapes ≤ 4) }
     requires shapes { AllByRecursion IsValidShape script.now.shapes }
     requires lanes { length script.now.lanes ≤ 16 }
-    ensures { IfOk result (λ text. text.items ≡ report_text script.now.shapes script.now.boot script.now.lanes words.now) }
+    requires few { length words.now ≤ 1048576 }
+    ensures { IfOk result (λ text. text.items ≡
+        report_text script.now.shapes script.now.boot script.now.lanes words.now) }
 {
-    let Replay { events, units } = replay_words(alloc, &script.shapes, words)?;
     let count = words.len();
-    let mut out = format!(in alloc; "events {count}\n")?;
-    push_events(&mut out, &events)?;
-    push_section(&mut out, alloc, &events, 0, &script.boot)?;
-    push_lanes(&mut out, alloc, &events, &script.lanes)?;
-    push_units(&mut out, &units)?;
-    out.push_str("end\n")?;
-    Ok(out.into_bytes())
+    let mut line = Line::new();
+    let mut units = Fabric::open(alloc, &script.shapes, count as u32)?;
+    let mut out = Vec::with_capacity(alloc, report_room(count))?;
+    push_count(&mut out, &mut line, count)?;
+    push_events(
+        &mut out,
+        &mut line,
+        alloc,
+        &mut units,
+        &script.boot,
+        &script.lanes,
+        words,
+    )?;
+    push_units(&mut out, &mut line, &units)?;
+    out.extend_from_slice(b"end\n")?;
+    Ok(out)
 }

@@ -2,10 +2,11 @@
 //! the enabling of the unit and the freezing of priority entries guard.
 #![tactic(auto)]
 
-ghost use Rattle.std.specs.Prelude.{◌≡◌, ◌<◌, IsTrue};
-ghost use Rattle.event_words.specs.Registers.{has_register};
+ghost use Rattle.std.specs.Prelude.{◌≡◌, ℕ, ◌<◌, ◌^◌, IsTrue};
+ghost use Rattle.event_words.specs.Registers.{has_bit, has_register, index_of};
 ghost use Rattle.event_words.specs.Valid.{IsValidShape};
-ghost use Rattle.event_words.specs.Guards.{where_true, srcmd_guards, entry_guards, locks_of, guarded_bits, whole};
+ghost use Rattle.event_words.specs.Guards.{is_locked_domain, is_guarded, guarded_bits, whole};
+ghost use Rattle.lock_rules.specs.Masks.{where_true, srcmd_guards, perm_guards, mdlck_guards, entry_guards, low_locks, high_locks, locks_of, keep_mask};
 
 use event_words::Register;
 use register_fields::{Regs, has_bit, read_only, register_at, whole};
@@ -23,13 +24,55 @@ fn whole_where(regs: &Regs, register: Register, holds: bool) -> u32
     where_true(holds, whole(regs.shape(), register))
 }
 
-fn srcmd_guards(regs: &Regs, rrid: u32, register: Register) -> u32
+/// The lock bits of domains 0 to 30, where the low registers have the domains' bits.
+fn low_locks(regs: &Regs) -> u32
+    ensures { result ≡ low_locks regs.now }
+{
+    regs.word(Register::Mdlck) / 2 * 2
+}
+
+fn high_locks(regs: &Regs) -> u32
+    ensures { result ≡ high_locks regs.now }
+{
+    regs.word(Register::Mdlckh)
+}
+
+/// Whether the lock bit of a domain is 1.
+fn is_locked_domain(regs: &Regs, domain: u32) -> bool
+    requires { domain < 63 }
+    ensures { result ≡ is_locked_domain regs.now domain }
+{
+    if domain < 31 {
+        has_bit(regs.word(Register::Mdlck), domain + 1)
+    } else {
+        has_bit(regs.word(Register::Mdlckh), domain - 31)
+    }
+}
+
+fn srcmd_guards(regs: &Regs, rrid: u32, register: Register, locks: u32) -> u32
     requires rrid { rrid < 64 }
     requires there { IsTrue (has_register regs.now.shape register) }
-    ensures { result ≡ srcmd_guards regs.now rrid register }
+    ensures { result ≡ srcmd_guards regs.now rrid register locks }
 {
     let locked = has_bit(regs.word(Register::SrcmdEn(rrid)), 0);
-    whole_where(regs, register, locked) | regs.word(Register::Mdlck) / 2 * 2
+    whole_where(regs, register, locked) | locks
+}
+
+fn perm_guards(regs: &Regs, domain: u32, register: Register) -> u32
+    requires domain { domain < 63 }
+    requires there { IsTrue (has_register regs.now.shape register) }
+    ensures { result ≡ perm_guards regs.now domain register }
+{
+    whole_where(regs, register, is_locked_domain(regs, domain))
+}
+
+fn mdlck_guards(regs: &Regs, register: Register) -> u32
+    requires index { index_of register < 2 ^ 32 }
+    requires there { IsTrue (has_register regs.now.shape register) }
+    ensures { result ≡ mdlck_guards regs.now register }
+{
+    let locked = has_bit(regs.word(Register::Mdlck), 0);
+    regs.word(register) | whole_where(regs, register, locked)
 }
 
 fn entry_guards(regs: &Regs, entry: u32, register: Register) -> u32
@@ -58,10 +101,7 @@ fn locks_of(regs: &Regs, register: Register) -> u32
     match register {
         Register::Hwcfg0 => hwcfg0_locks(regs),
         Register::Hwcfg2 => where_true(!has_bit(regs.word(Register::Hwcfg0), 13), 0xffff),
-        Register::Mdlck => {
-            let word = regs.word(Register::Mdlck);
-            word | whole_where(regs, register, has_bit(word, 0))
-        }
+        Register::Mdlck | Register::Mdlckh => mdlck_guards(regs, register),
         Register::Mdcfglck | Register::Entrylck | Register::ErrCfg => {
             whole_where(regs, register, has_bit(regs.word(register), 0))
         }
@@ -70,14 +110,13 @@ fn locks_of(regs: &Regs, register: Register) -> u32
             whole_where(regs, register, locked)
         }
         Register::SrcmdEn(rrid) | Register::SrcmdR(rrid) | Register::SrcmdW(rrid) => {
-            srcmd_guards(regs, rrid, register)
+            srcmd_guards(regs, rrid, register, low_locks(regs))
         }
-        Register::SrcmdPerm(domain) => {
-            whole_where(
-                regs,
-                register,
-                has_bit(regs.word(Register::Mdlck), domain + 1),
-            )
+        Register::SrcmdEnh(rrid) | Register::SrcmdRh(rrid) | Register::SrcmdWh(rrid) => {
+            srcmd_guards(regs, rrid, register, high_locks(regs))
+        }
+        Register::SrcmdPerm(domain) | Register::SrcmdPermh(domain) => {
+            perm_guards(regs, domain, register)
         }
         Register::EntryAddr(entry) | Register::EntryAddrh(entry) | Register::EntryCfg(entry) => {
             entry_guards(regs, entry, register)
@@ -86,13 +125,21 @@ fn locks_of(regs: &Regs, register: Register) -> u32
     }
 }
 
-/// The guarded bits of the register at an index (a byte offset divided by 4), and 0 where there is
-/// no register. A write that keeps these bits keeps all that is guarded in this state.
-pub fn keep_mask(regs: &Regs, index: u32) -> u32
-    ensures { result ≡ guarded_bits regs.now index }
+/// The mask of the register at an index: its read-only fields and what its line of the table guards.
+fn mask_of(regs: &Regs, index: u32) -> u32
+    ensures { result ≡ keep_mask regs.now index }
 {
     match register_at(regs.shape(), index) {
         Some(register) => read_only(regs.shape(), register) | locks_of(regs, register),
         None => 0,
     }
+}
+
+/// The guarded bits of the register at an index (a byte offset divided by 4), and 0 where there is
+/// no register. A write that keeps these bits keeps all that is guarded in this state.
+pub fn keep_mask(regs: &Regs, index: u32) -> u32
+    ensures value { result ≡ guarded_bits regs.now index }
+    ensures bits { (i : ℕ) → i < 32 → has_bit result i ≡ is_guarded regs.now index i }
+{
+    mask_of(regs, index)
 }

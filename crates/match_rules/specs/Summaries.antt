@@ -1,3 +1,4 @@
+-- What a decision needs of the entries that touch or cover a transaction.
 use Rattle.std.specs.Prelude.{◌≡◌, ℕ, ◌+◌, Bool, List, slice_get}
 use Rattle.std.specs.List.{list_any}
 use Rattle.event_words.specs.declared.access.Access.{Access}

@@ -1,34 +1,34 @@
--- The registers after an image's writes are those of a compiled policy.
-use Rattle.std.proofs.Common.{◌≡◌, ℕ, ◌+◌, ◌*◌, ◌^◌, ◌<◌, ◌≤◌, ◌⊎◌, inl, inr, Bool, true, false, ◌==◌, List, [], ◌∷◌, ◌++◌, length, length-append, append_assoc, get_or, set, arith, refl, sym, ap, ◌∙◌, subst}
+-- What the words of the tables read after an image's writes.
+use Rattle.std.proofs.Common.{◌≡◌, ℕ, ◌+◌, ◌*◌, ◌^◌, ◌<◌, ◌≤◌, ◌⊎◌, inl, inr, Bool, true, false, ◌==◌, ltb, List, [], ◌∷◌, ◌++◌, length, length-append, append_assoc, get_or, set, arith, refl, sym, ap, ◌∙◌, subst}
 use Rattle.std.proofs.Math.ListN.{length-set}
 use Rattle.std.proofs.lemmas.List.{get_or-set_same, get_or-set_other}
 use Rattle.std.proofs.lemmas.Bool.Decides.{nat_tests}
 use Rattle.event_words.specs.declared.shape.Shape.{Shape}
+use Rattle.event_words.specs.declared.register.Register.TheVariants.{Mdcfg}
 use Rattle.event_words.specs.Registers.{Registers, word_at, bits_of, has_bit, set_word, at_reset, reset_of, index_count}
 use Rattle.event_words.specs.Guards.{is_enabled}
-use Rattle.event_words.specs.Domains.{bound_of}
-use Rattle.event_words.specs.Decisions.{prio_count, decision}
+use Rattle.event_words.proofs.Indexes.{register_at-there}
+use Rattle.event_words.specs.Decisions.{prio_count}
 use Rattle.policy_compiler.specs.declared.image.RegPair.{RegPair}
 use Rattle.policy_compiler.specs.declared.hardware.EntryWords.{EntryWords}
 use Rattle.policy_compiler.specs.declared.read.rules.RuleKind.TheVariants.{Guards, Grants}
 use Rattle.policy_compiler.specs.Policies.{PolicyOf, IsPolicy, IsPolicyShape}
-use Rattle.policy_compiler.specs.Images.{HardwareOf, hardware, hardware_of, entry_count, pair, mdcfg_writes, enable_bits, enable_writes, permissions, permission_writes, member_writes, hardware_writes, entry_writes, writes_of, image_of}
+use Rattle.policy_compiler.specs.Images.{HardwareOf, hardware, hardware_of, entry_count, pair, mdcfg_writes, enable_bits, permissions, member_writes, hardware_writes, entry_writes, writes_of, image_of}
 use Rattle.policy_compiler.specs.Needs.{need_domains, need_entries}
-use Rattle.policy_compiler.specs.Laws.{after_writes, registers_after, kind_of, DecidesAs}
+use Rattle.policy_compiler.specs.Laws.{after_writes, registers_after}
 use Rattle.policy_compiler.proofs.Fits.{domains_have_rules, count_append, kind_domains, kind_entries}
-use Rattle.policy_compiler.proofs.Plain.{puts, Puts, ArePlain, after_plain, after_append, plain_append, register_at-Mdcfg}
+use Rattle.policy_compiler.proofs.Plain.{puts, Puts, ArePlain, after_plain, after_append, plain_append, has_mdcfg}
 use Rattle.policy_compiler.proofs.Ends.{reset_read, calm_reset, calm_prio, prio_word, prio_read, enable_word, enabled_after}
-use Rattle.policy_compiler.proofs.Puts.{AreWithin, untouched, length_puts, puts_append, mdcfg_within, enables_within, permissions_within, entries_within, end_at, mdcfg_read, enables_read, members_at, permissions_read, all_entries, hardware_entries, ReadsEntries, entries_read}
+use Rattle.policy_compiler.proofs.Puts.{AreWithin, untouched, length_puts, puts_append, mdcfg_within, entries_within, end_at, mdcfg_read, members_at, all_entries, hardware_entries, ReadsEntries, entries_read}
+use Rattle.policy_compiler.proofs.SrcmdRows.{row_writes, enable_rows, permission_rows, enables_are_rows, permissions_are_rows, length_enables, length_permissions, enables_at, permissions_at, rows_within, ReadsRow, same_row, rows_read}
 use Rattle.policy_compiler.proofs.PlainWrites.{AreEntries, both_good, length_all, plain_mdcfgs, plain_enables, plain_permissions, plain_entries}
-use Rattle.policy_compiler.proofs.Owners.{end_small, IsMemberTable, table_of_enables, table_of_permissions, holds_all, owner_past}
-use Rattle.policy_compiler.proofs.Decided.{IsCompiled, decided}
 
 -- ---- the writes between the first and the last
 
 abbrev pub table_writes : Shape → List HardwareOf → List RegPair
 table_writes h hs = mdcfg_writes 0 0 hs ++ (member_writes h hs ++ hardware_writes 0 hs)
 
--- hardware domains that a shape has room for, with entries of 38 bits
+-- hardware domains that a shape has room for, with entries of 50 bits
 pub record HasRoom (h : Shape) (hs : List HardwareOf) : Type 0 where
   pub shape : IsPolicyShape h
   pub domains : length hs ≤ h.domains
@@ -42,17 +42,17 @@ format_of h good = by_test (h.srcmd == 0) refl
     by_test true e = inl (grind (arith, nat_tests))
     by_test false e = let t = good.srcmd in let q : (h.srcmd == 2) ≡ true = rw e at t in inr (grind (arith, nat_tests))
 
-members_0 : (h : Shape) (hs : List HardwareOf) → h.srcmd ≡ 0 → member_writes h hs ≡ enable_writes hs 0 h.rrids
+pub members_0 : (h : Shape) (hs : List HardwareOf) → h.srcmd ≡ 0 → member_writes h hs ≡ row_writes (ltb 31 h.domains) 0 (enable_rows hs 0 h.rrids)
 unfolding member_writes
-members_0 h hs f = rw f refl
+members_0 h hs f = rw f (enables_are_rows h.domains hs 0 h.rrids)
 
-members_2 : (h : Shape) (hs : List HardwareOf) → h.srcmd ≡ 2 → member_writes h hs ≡ permission_writes h.rrids 0 hs
+pub members_2 : (h : Shape) (hs : List HardwareOf) → h.srcmd ≡ 2 → member_writes h hs ≡ row_writes (ltb 16 h.rrids) 0 (permission_rows h.rrids hs)
 unfolding member_writes
-members_2 h hs f = rw f refl
+members_2 h hs f = rw f (permissions_are_rows h.rrids 0 hs)
 
 plain_members : (h : Shape) (hs : List HardwareOf) → HasRoom h hs → (h.srcmd ≡ 0) ⊎ (h.srcmd ≡ 2) → ArePlain h (member_writes h hs)
-plain_members h hs room (inl f) = rw (members_0 h hs f) (plain_enables h hs 0 h.rrids room.shape f room.domains (omega arith))
-plain_members h hs room (inr f) = rw (members_2 h hs f) (plain_permissions h 0 hs room.shape f (let d = room.domains in omega arith))
+plain_members h hs room (inl f) = rw (members_0 h hs f) (plain_enables h (ltb 31 h.domains) hs 0 h.rrids room.shape f room.domains (omega arith))
+plain_members h hs room (inr f) = rw (members_2 h hs f) (plain_permissions h (ltb 16 h.rrids) 0 hs room.shape f (let d = room.domains in omega arith))
 
 plain_hardware : (h : Shape) (hs : List HardwareOf) → HasRoom h hs → ArePlain h (hardware_writes 0 hs)
 plain_hardware h hs room = rw (hardware_entries 0 hs) (plain_entries h 0 (all_entries hs) (let e = length_all hs in let n = room.entries in omega arith) room.good)
@@ -114,8 +114,15 @@ last_read h g hs i room ne low =
     ∙ untouched (words_2 h g hs) (entry_writes 0 (all_entries hs)) 2048 (2048 + 4 * (0 + length (all_entries hs))) i (entries_within 0 (all_entries hs) 2048 (2048 + 4 * (0 + length (all_entries hs))) (omega arith) (omega arith)) (inl low))
 
 members_within : (h : Shape) (hs : List HardwareOf) → HasRoom h hs → (h.srcmd ≡ 0) ⊎ (h.srcmd ≡ 2) → AreWithin 1024 2048 (member_writes h hs)
-members_within h hs room (inl f) = rw (members_0 h hs f) (enables_within hs 0 h.rrids 1024 2048 (omega arith) (let n = room.shape.valid.rrids in omega arith))
-members_within h hs room (inr f) = rw (members_2 h hs f) (permissions_within h.rrids 0 hs 1024 2048 (omega arith) (let n = room.shape.valid.domains in let d = room.domains in omega arith))
+members_within h hs room (inl f) =
+    let n = room.shape.valid.rrids in
+    let l = length_enables hs 0 h.rrids in
+    rw (members_0 h hs f) (rows_within (ltb 31 h.domains) 0 (enable_rows hs 0 h.rrids) 1024 2048 (omega arith) (omega arith))
+members_within h hs room (inr f) =
+    let n = room.shape.valid.domains in
+    let d = room.domains in
+    let l = length_permissions h.rrids hs in
+    rw (members_2 h hs f) (rows_within (ltb 16 h.rrids) 0 (permission_rows h.rrids hs) 1024 2048 (omega arith) (omega arith))
 
 low_read : (h : Shape) (g : ℕ) (hs : List HardwareOf) (i : ℕ) → HasRoom h hs → (i ≡ 2 → ⊥) → i < 1024 → word_at (last_of h g hs) i ≡ get_or (words_1 h g hs) i 0
 low_read h g hs i room ne low =
@@ -125,7 +132,7 @@ mdcfg_reset : (h : Shape) (g m : ℕ) → IsPolicyShape h → m < h.domains → 
 mdcfg_reset h g m good p =
     let few = good.valid.domains in
     get_or-set_other (at_reset h).words 4 (512 + m) (prio_word (at_reset h) g) 0 (λ e. absurd (omega arith))
-    ∙ (reset_read h (512 + m) (omega arith) ∙ ap (reset_of h) (register_at-Mdcfg h m good.mdcfg (omega arith) p))
+    ∙ (reset_read h (512 + m) (omega arith) ∙ ap (reset_of h) (register_at-there h (Mdcfg m) good.valid (has_mdcfg h m good.mdcfg p)))
 
 pub mdcfg_word : (h : Shape) (g : ℕ) (hs : List HardwareOf) (m : ℕ) → HasRoom h hs → m < h.domains → word_at (last_of h g hs) (512 + m) ≡ end_at 0 hs m
 mdcfg_word h g hs m room p =
@@ -143,61 +150,42 @@ shape_of h g hs room = (tables_put h g hs room).calm.shape
 pub small_bits : (w : ℕ) → w < 2 ^ 16 → bits_of 0 16 w ≡ w
 small_bits w h = omega arith
 
-bound_is : (h : Shape) (g : ℕ) (hs : List HardwareOf) (m : ℕ) → HasRoom h hs → m < h.domains → bound_of (last_of h g hs) m ≡ end_at 0 hs m
-bound_is h g hs m room p =
-    let f : (last_of h g hs).shape.mdcfg ≡ 0 = ap (λ (x : Shape). x.mdcfg) (shape_of h g hs room) ∙ room.shape.mdcfg in
-    let few = room.shape.valid.entries in
-    let n = room.entries in
-    let w = mdcfg_word h g hs m room p in
-    let s = end_small 0 hs m in
-    let b : bound_of (last_of h g hs) m ≡ bits_of 0 16 (word_at (last_of h g hs) (512 + m)) = rw f refl in
-    b ∙ (ap (bits_of 0 16) w ∙ small_bits (end_at 0 hs m) (omega arith))
-
 -- ---- members
 
-row_read : (h : Shape) (g : ℕ) (hs : List HardwareOf) (s : ℕ) → HasRoom h hs → s < 64 → word_at (last_of h g hs) (1024 + 8 * s) ≡ get_or (words_2 h g hs) (1024 + 8 * s) 0
-row_read h g hs s room p = last_read h g hs (1024 + 8 * s) room (λ e. absurd (omega arith)) (omega arith)
+row_last : (h : Shape) (g : ℕ) (hs : List HardwareOf) (high : Bool) (k n : ℕ) → HasRoom h hs → k < 64 → ReadsRow (words_2 h g hs) high k n → ReadsRow (last_of h g hs).words high k n
+row_last h g hs high k n room p row =
+    same_row (words_2 h g hs) (last_of h g hs).words high k n
+    (last_read h g hs (1024 + 8 * k) room (λ e. absurd (omega arith)) (omega arith))
+    (last_read h g hs (1025 + 8 * k) room (λ e. absurd (omega arith)) (omega arith)) row
 
 length_1 : (h : Shape) (g : ℕ) (hs : List HardwareOf) → length (words_1 h g hs) ≡ index_count h
 length_1 h g hs = length_puts (first_of h g).words (mdcfg_writes 0 0 hs) ∙ first_length h g
 
-pub enable_word_is : (h : Shape) (g : ℕ) (hs : List HardwareOf) (s : ℕ) → HasRoom h hs → h.srcmd ≡ 0 → s < h.rrids → word_at (last_of h g hs) (1024 + 8 * s) ≡ enable_bits s 0 hs
-enable_word_is h g hs s room f p =
+pub enable_row_is : (h : Shape) (g : ℕ) (hs : List HardwareOf) (s : ℕ) → HasRoom h hs → h.srcmd ≡ 0 → s < h.rrids → ReadsRow (last_of h g hs).words (ltb 31 h.domains) s (enable_bits s 0 hs)
+enable_row_is h g hs s room f p =
     let few = room.shape.valid.rrids in
     let n = length_1 h g hs in
+    let l = length_enables hs 0 h.rrids in
     let z : 0 + s ≡ s = omega arith in
-    row_read h g hs s room (omega arith)
-    ∙ (ap (λ ps. get_or (puts (words_1 h g hs) ps) (1024 + 8 * s) 0) (members_0 h hs f)
-    ∙ (ap (λ k. get_or (puts (words_1 h g hs) (enable_writes hs 0 h.rrids)) (1024 + 8 * k) 0) (sym z)
-    ∙ (enables_read (words_1 h g hs) hs 0 h.rrids s p (omega arith) ∙ ap (λ k. enable_bits k 0 hs) z)))
+    let row = rows_read (words_1 h g hs) (ltb 31 h.domains) 0 (enable_rows hs 0 h.rrids) s (omega arith) (omega arith) in
+    let here = subst (λ k. ReadsRow (puts (words_1 h g hs) (row_writes (ltb 31 h.domains) 0 (enable_rows hs 0 h.rrids))) (ltb 31 h.domains) k (get_or (enable_rows hs 0 h.rrids) s 0)) z row in
+    let bits : get_or (enable_rows hs 0 h.rrids) s 0 ≡ enable_bits s 0 hs = enables_at hs 0 h.rrids s p ∙ ap (λ t. enable_bits t 0 hs) z in
+    row_last h g hs (ltb 31 h.domains) s (enable_bits s 0 hs) room (omega arith)
+    (subst (λ ps. ReadsRow (puts (words_1 h g hs) ps) (ltb 31 h.domains) s (enable_bits s 0 hs)) (sym (members_0 h hs f))
+    (subst (ReadsRow (puts (words_1 h g hs) (row_writes (ltb 31 h.domains) 0 (enable_rows hs 0 h.rrids))) (ltb 31 h.domains) s) bits here))
 
-pub permission_word_is : (h : Shape) (g : ℕ) (hs : List HardwareOf) (m : ℕ) → HasRoom h hs → h.srcmd ≡ 2 → m < length hs → word_at (last_of h g hs) (1024 + 8 * m) ≡ permissions h.rrids (members_at hs m)
-permission_word_is h g hs m room f p =
+pub permission_row_is : (h : Shape) (g : ℕ) (hs : List HardwareOf) (m : ℕ) → HasRoom h hs → h.srcmd ≡ 2 → m < length hs → ReadsRow (last_of h g hs).words (ltb 16 h.rrids) m (permissions h.rrids (members_at hs m))
+permission_row_is h g hs m room f p =
     let few = room.shape.valid.domains in
     let d = room.domains in
     let n = length_1 h g hs in
+    let l = length_permissions h.rrids hs in
     let z : 0 + m ≡ m = omega arith in
-    row_read h g hs m room (omega arith)
-    ∙ (ap (λ ps. get_or (puts (words_1 h g hs) ps) (1024 + 8 * m) 0) (members_2 h hs f)
-    ∙ (ap (λ k. get_or (puts (words_1 h g hs) (permission_writes h.rrids 0 hs)) (1024 + 8 * k) 0) (sym z)
-    ∙ permissions_read (words_1 h g hs) h.rrids 0 hs m p (omega arith)))
-
-member_table : (h : Shape) (g : ℕ) (hs : List HardwareOf) (k : ℕ) → HasRoom h hs → (h.srcmd ≡ 0) ⊎ (h.srcmd ≡ 2) → k < length hs → IsMemberTable (last_of h g hs) k (members_at hs k)
-member_table h g hs k room (inl f) p =
-    let e = shape_of h g hs room in
-    let c : (last_of h g hs).shape.srcmd ≡ 0 = ap (λ (x : Shape). x.srcmd) e ∙ f in
-    let n : (last_of h g hs).shape.sps ≡ false = ap (λ (x : Shape). x.sps) e ∙ room.shape.sps in
-    let d : (last_of h g hs).shape.domains ≡ h.domains = ap (λ (x : Shape). x.domains) e in
-    let t : (last_of h g hs).shape.rrids ≡ h.rrids = ap (λ (x : Shape). x.rrids) e in
-    let few = room.domains in
-    table_of_enables (last_of h g hs) hs k c n p (omega arith) (λ s l. enable_word_is h g hs s room f (omega arith))
-member_table h g hs k room (inr f) p =
-    let e = shape_of h g hs room in
-    let c : (last_of h g hs).shape.srcmd ≡ 2 = ap (λ (x : Shape). x.srcmd) e ∙ f in
-    let d : (last_of h g hs).shape.domains ≡ h.domains = ap (λ (x : Shape). x.domains) e in
-    let t : (last_of h g hs).shape.rrids ≡ h.rrids = ap (λ (x : Shape). x.rrids) e in
-    let few = room.domains in
-    table_of_permissions (last_of h g hs) (members_at hs k) k c (omega arith) (permission_word_is h g hs k room f p ∙ ap (λ n. permissions n (members_at hs k)) (sym t))
+    let row = rows_read (words_1 h g hs) (ltb 16 h.rrids) 0 (permission_rows h.rrids hs) m (omega arith) (omega arith) in
+    let here = subst (λ k. ReadsRow (puts (words_1 h g hs) (row_writes (ltb 16 h.rrids) 0 (permission_rows h.rrids hs))) (ltb 16 h.rrids) k (get_or (permission_rows h.rrids hs) m 0)) z row in
+    row_last h g hs (ltb 16 h.rrids) m (permissions h.rrids (members_at hs m)) room (omega arith)
+    (subst (λ ps. ReadsRow (puts (words_1 h g hs) ps) (ltb 16 h.rrids) m (permissions h.rrids (members_at hs m))) (sym (members_2 h hs f))
+    (subst (ReadsRow (puts (words_1 h g hs) (row_writes (ltb 16 h.rrids) 0 (permission_rows h.rrids hs))) (ltb 16 h.rrids) m) (permissions_at h.rrids hs m p) here))
 
 -- ---- entries
 
@@ -224,7 +212,7 @@ entries_are h g hs room =
 
 -- ---- the whole
 
-prio_is : (h : Shape) (g : ℕ) (hs : List HardwareOf) → HasRoom h hs → g ≤ h.entries → prio_count (last_of h g hs) ≡ g
+pub prio_is : (h : Shape) (g : ℕ) (hs : List HardwareOf) → HasRoom h hs → g ≤ h.entries → prio_count (last_of h g hs) ≡ g
 prio_is h g hs room few =
     let n = room.shape.valid.entries in
     let l = (calm_reset h).len in
@@ -235,7 +223,7 @@ prio_is h g hs room few =
     ∙ get_or-set_same (at_reset h).words 4 (prio_word (at_reset h) g) 0 (omega arith)) in
     ap (bits_of 0 16) read ∙ prio_read h (at_reset h) g room.shape (calm_reset h) (omega arith)
 
-enabled_is : (h : Shape) (g : ℕ) (hs : List HardwareOf) → HasRoom h hs → is_enabled (last_of h g hs) ≡ true
+pub enabled_is : (h : Shape) (g : ℕ) (hs : List HardwareOf) → HasRoom h hs → is_enabled (last_of h g hs) ≡ true
 enabled_is h g hs room =
     let c = (tables_put h g hs room).calm in
     let l = c.len in
@@ -257,33 +245,6 @@ room_of p good d e = record {
   good = both_good p.domains (domains_have_rules p good);
 }
 
-compiled : (p : PolicyOf) → HasRoom p.shape (hardware p.domains) → IsCompiled (last_of p.shape (entry_count (hardware_of Guards p.domains)) (hardware p.domains)) p
-compiled p room =
-    let h = p.shape in
-    let e = shape_of p.shape (entry_count (hardware_of Guards p.domains)) (hardware p.domains) room in
-    let d : (last_of p.shape (entry_count (hardware_of Guards p.domains)) (hardware p.domains)).shape.domains ≡ p.shape.domains = ap (λ (x : Shape). x.domains) e in
-    let n : (last_of p.shape (entry_count (hardware_of Guards p.domains)) (hardware p.domains)).shape.entries ≡ p.shape.entries = ap (λ (x : Shape). x.entries) e in
-    let few = room.domains in
-    let fits = room.entries in
-    let total = count_append (hardware_of Guards p.domains) (hardware_of Grants p.domains) in
-    let bounds : (m : ℕ) → m < (last_of p.shape (entry_count (hardware_of Guards p.domains)) (hardware p.domains)).shape.domains → bound_of (last_of p.shape (entry_count (hardware_of Guards p.domains)) (hardware p.domains)) m ≡ end_at 0 (hardware p.domains) m =
-    λ m l. bound_is p.shape (entry_count (hardware_of Guards p.domains)) (hardware p.domains) m room (omega arith) in
-    record {
-      shape = e;
-      enabled = enabled_is p.shape (entry_count (hardware_of Guards p.domains)) (hardware p.domains) room;
-      prio = prio_is p.shape (entry_count (hardware_of Guards p.domains)) (hardware p.domains) room (omega arith);
-      holds = holds_all (last_of p.shape (entry_count (hardware_of Guards p.domains)) (hardware p.domains)) (hardware p.domains) (omega arith) bounds
-          (λ k l. member_table p.shape (entry_count (hardware_of Guards p.domains)) (hardware p.domains) k room (format_of p.shape room.shape) l)
-          (entries_are p.shape (entry_count (hardware_of Guards p.domains)) (hardware p.domains) room);
-      free = owner_past (last_of p.shape (entry_count (hardware_of Guards p.domains)) (hardware p.domains)) (hardware p.domains) bounds;
-      fits = omega arith;
-    }
-
 pub image_registers : (p : PolicyOf) → registers_after (image_of p) ≡ last_of p.shape (entry_count (hardware_of Guards p.domains)) (hardware p.domains)
 unfolding registers_after image_of
 image_registers p = after_is p.shape (entry_count (hardware_of Guards p.domains)) (hardware p.domains)
-
--- A unit decides after the image of a policy as the policy does.
-pub decides_as : (p : PolicyOf) → IsPolicy p → need_domains p ≤ p.shape.domains → need_entries p ≤ p.shape.entries → DecidesAs p (image_of p)
-decides_as p good d e a valid =
-    ap (λ r. kind_of (decision r a)) (image_registers p) ∙ decided (last_of p.shape (entry_count (hardware_of Guards p.domains)) (hardware p.domains)) p a (compiled p (room_of p good d e)) good valid

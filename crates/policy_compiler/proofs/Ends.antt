@@ -12,7 +12,7 @@ use Rattle.std.proofs.lemmas.Bool.Decides.{nat_tests}
 use Rattle.event_words.specs.declared.shape.Shape.{Shape}
 use Rattle.event_words.specs.declared.register.Register.TheVariants.{Hwcfg0, Hwcfg2, SrcmdEn}
 use Rattle.event_words.specs.Registers.{Registers, word_at, bits_of, has_bit, named_at, if_had, fields_of, ruled_word, merged, set_word, reset_word, reset_of, index_count, at_reset, count_of_bool}
-use Rattle.event_words.specs.Guards.{guards_of, is_enabled, is_prient_prog}
+use Rattle.event_words.specs.Guards.{guarded_bits, is_enabled, is_prient_prog}
 use Rattle.policy_compiler.specs.Policies.{IsPolicyShape}
 use Rattle.policy_compiler.specs.Images.{pair}
 use Rattle.policy_compiler.specs.Laws.{guarded_write}
@@ -45,6 +45,7 @@ calm_reset h = record {
   shape = refl;
   len = length-map-range_with_len (reset_word h) 0 (index_count h);
   mdlck = reset_read h 16 (omega arith);
+  mdlckh = reset_read h 17 (omega arith);
   mdcfglck = reset_read h 18 (omega arith);
   entrylck = reset_read h 19 (omega arith);
   hwcfg0 = reset_read h 2 (omega arith);
@@ -80,6 +81,7 @@ calm_prio h r v c = record {
   shape = c.shape;
   len = length-set r.words 4 v ∙ c.len;
   mdlck = other r.words 4 16 v (λ e. absurd (omega arith)) ∙ c.mdlck;
+  mdlckh = other r.words 4 17 v (λ e. absurd (omega arith)) ∙ c.mdlckh;
   mdcfglck = other r.words 4 18 v (λ e. absurd (omega arith)) ∙ c.mdcfglck;
   entrylck = other r.words 4 19 v (λ e. absurd (omega arith)) ∙ c.entrylck;
   hwcfg0 = other r.words 4 2 v (λ e. absurd (omega arith)) ∙ c.hwcfg0;
@@ -88,7 +90,7 @@ calm_prio h r v c = record {
 
 -- the word of HWCFG2
 abbrev pub prio_word : Registers → ℕ → ℕ
-prio_word r g = merged (guards_of r (Some Hwcfg2)) (word_at r 4) (ruled_word (fields_of r.shape Hwcfg2) (word_at r 4) g)
+prio_word r g = merged (guarded_bits r 4) (word_at r 4) (ruled_word (fields_of r.shape Hwcfg2) (word_at r 4) g)
 
 pub prio_write : (r : Registers) (g : ℕ) → guarded_write r (pair 4 g) ≡ set_word r 4 (prio_word r g)
 prio_write r g = refl
@@ -99,7 +101,7 @@ merged_low k keep old new e f =
     let b : bit_and new (bit_not w32 keep) % 2 ^ k ≡ new % 2 ^ k % 2 ^ k = and_mod new (bit_not w32 keep) k ∙ (ap (bit_and (new % 2 ^ k)) f ∙ and_mask (new % 2 ^ k) k) in
     or_mod (bit_and old keep) (bit_and new (bit_not w32 keep)) k ∙ (ap (λ x. bit_or x (bit_and new (bit_not w32 keep) % 2 ^ k)) a ∙ (or_zero_l _ ∙ (b ∙ mod-eq_of_lt (omega (arith, pow_pos k)))))
 
-pub prio_kept : (r : Registers) → is_prient_prog r ≡ true → guards_of r (Some Hwcfg2) ≡ 4294901760
+pub prio_kept : (r : Registers) → is_prient_prog r ≡ true → guarded_bits r 4 ≡ 4294901760
 prio_kept r e = rw e refl
 
 pub prio_read : (h : Shape) (r : Registers) (g : ℕ) → IsPolicyShape h → IsCalm h r → g < 2 ^ 16 → bits_of 0 16 (prio_word r g) ≡ g
@@ -116,12 +118,12 @@ prio_read h r g good c small =
 -- ---- the last write: the enable bit
 
 abbrev pub enable_word : Registers → ℕ
-enable_word r = merged (guards_of r (Some Hwcfg0)) (word_at r 2) (ruled_word (fields_of r.shape Hwcfg0) (word_at r 2) 1)
+enable_word r = merged (guarded_bits r 2) (word_at r 2) (ruled_word (fields_of r.shape Hwcfg0) (word_at r 2) 1)
 
 pub enable_last : (r : Registers) → guarded_write r (pair 2 1) ≡ set_word r 2 (enable_word r)
 enable_last r = refl
 
-pub enable_kept : (r : Registers) → is_enabled r ≡ false → is_prient_prog r ≡ true → r.shape.mdcfg ≡ 0 → guards_of r (Some Hwcfg0) ≡ 16654334
+pub enable_kept : (r : Registers) → is_enabled r ≡ false → is_prient_prog r ≡ true → r.shape.mdcfg ≡ 0 → guarded_bits r 2 ≡ 16654334
 enable_kept r e p f = rw (e, p, f) refl
 
 enable_ruled : (r : Registers) → word_at r 2 % 2 ≡ 0 → r.shape.mdcfg ≡ 0 → ruled_word (fields_of r.shape Hwcfg0) (word_at r 2) 1 % 2 ^ 1 ≡ 1

@@ -111,7 +111,7 @@ power_of_ones (suc d) n h e =
     (cases_lt (n % 2) 1)
 
 napot_bytes : (r : Registers) (i x from size k rights : ℕ) → reg r (EntryCfg i) ≡ rights + 24 → rights < 8 → word_address r i ≡ from / 4 + size / 8 - 1 → size ≡ 2 ^ (k + 3) → from % size ≡ 0
-    → from + size ≤ 2 ^ 40 → is_byte_of r i x ≡ is_between from (from + size) x
+    → from + size ≤ 2 ^ 52 → is_byte_of r i x ≡ is_between from (from + size) x
 napot_bytes r i x from size k rights e h w p m top =
     let q = from / size in
     let pos = pow_pos k in

@@ -1,5 +1,5 @@
 -- The section that makes an image's writes is valid, and names unit 0 alone.
-use Rattle.std.proofs.Common.{◌≡◌, ℕ, zero, suc, ◌^◌, ◌+◌, ◌*◌, ◌≤◌, Bool, true, false, ◌==◌, List, [], ◌∷◌, ◌++◌, length, map, count_by, None, arith, refl, sym, ◌∙◌, length-append}
+use Rattle.std.proofs.Common.{◌≡◌, ℕ, ◌^◌, ◌+◌, ◌*◌, ◌≤◌, ◌⊎◌, inl, inr, ltb, List, [], ◌∷◌, ◌++◌, length, map, count_by, None, arith, refl, sym, ◌∙◌, length-append}
 use Rattle.std.specs.List.{AllByRecursion}
 use Rattle.std.proofs.lemmas.List.{length-map}
 use Rattle.event_words.specs.declared.shape.Shape.{Shape}
@@ -9,12 +9,14 @@ use Rattle.event_words.specs.Sections.{IsValidSection, AreValidCommands, NamesUn
 use Rattle.policy_compiler.specs.declared.image.RegPair.{RegPair}
 use Rattle.policy_compiler.specs.declared.hardware.EntryWords.{EntryWords}
 use Rattle.policy_compiler.specs.declared.read.rules.RuleKind.TheVariants.{Guards}
-use Rattle.policy_compiler.specs.Policies.{PolicyOf, IsPolicy}
-use Rattle.policy_compiler.specs.Images.{HardwareOf, pair, entry_writes, hardware, hardware_of, mdcfg_writes, enable_writes, permission_writes, member_writes, hardware_writes, writes_of, image_of, entry_count}
+use Rattle.policy_compiler.specs.Policies.{PolicyOf, IsPolicy, IsPolicyShape}
+use Rattle.policy_compiler.specs.Images.{HardwareOf, pair, entry_writes, hardware, hardware_of, mdcfg_writes, member_writes, hardware_writes, writes_of, image_of, entry_count}
 use Rattle.policy_compiler.specs.Needs.{need_refusal}
 use Rattle.policy_compiler.specs.Commands.{write_command, image_section}
 use Rattle.policy_compiler.proofs.Fits.{fits_in}
 use Rattle.policy_compiler.proofs.Puts.{AreWithin}
+use Rattle.policy_compiler.proofs.SrcmdRows.{enable_rows, permission_rows, length_enables, length_permissions, rows_count}
+use Rattle.policy_compiler.proofs.Compiled.{format_of, members_0, members_2}
 use Rattle.policy_compiler.proofs.Within.{AreWords, none_needed, image_within, image_words}
 
 -- ---- how many writes there are
@@ -23,18 +25,9 @@ mdcfg_count : (m before : ℕ) (hs : List HardwareOf) → length (mdcfg_writes m
 mdcfg_count m before [] = refl
 mdcfg_count m before (h ∷ hs) = omega (arith, mdcfg_count (m + 1) (before + length h.entries) hs)
 
-enables_count : (hs : List HardwareOf) (s n : ℕ) → length (enable_writes hs s n) ≡ n
-enables_count hs s zero = refl
-enables_count hs s (suc n) = omega (arith, enables_count hs (s + 1) n)
-
-permissions_count : (rrids m : ℕ) (hs : List HardwareOf) → length (permission_writes rrids m hs) ≡ length hs
-permissions_count rrids m [] = refl
-permissions_count rrids m (h ∷ hs) = omega (arith, permissions_count rrids (m + 1) hs)
-
-members_count : (h : Shape) (hs : List HardwareOf) (b : Bool) → (h.srcmd == 0) ≡ b → length (member_writes h hs) ≤ h.rrids + length hs
-unfolding member_writes
-members_count h hs true e = rw e (omega (arith, enables_count hs 0 h.rrids))
-members_count h hs false e = rw e (omega (arith, permissions_count h.rrids 0 hs))
+members_count : (h : Shape) (hs : List HardwareOf) → (h.srcmd ≡ 0) ⊎ (h.srcmd ≡ 2) → length (member_writes h hs) ≤ 2 * (h.rrids + length hs)
+members_count h hs (inl f) = rw (members_0 h hs f) (omega (arith, rows_count (ltb 31 h.domains) 0 (enable_rows hs 0 h.rrids), length_enables hs 0 h.rrids))
+members_count h hs (inr f) = rw (members_2 h hs f) (omega (arith, rows_count (ltb 16 h.rrids) 0 (permission_rows h.rrids hs), length_permissions h.rrids hs))
 
 entries_count : (i : ℕ) (es : List EntryWords) → length (entry_writes i es) ≡ 3 * length es
 entries_count i [] = refl
@@ -45,9 +38,9 @@ hardware_count i [] = refl
 hardware_count i (h ∷ hs) =
     length-append (entry_writes i h.entries) (hardware_writes (i + length h.entries) hs) ∙ omega (arith, entries_count i h.entries, hardware_count (i + length h.entries) hs)
 
-writes_count : (h : Shape) (guards : ℕ) (hs : List HardwareOf) → length (writes_of h guards hs) ≤ 2 + h.rrids + 2 * length hs + 3 * entry_count hs
+writes_count : (h : Shape) (guards : ℕ) (hs : List HardwareOf) → IsPolicyShape h → length (writes_of h guards hs) ≤ 2 + 2 * h.rrids + 3 * length hs + 3 * entry_count hs
 unfolding writes_of
-writes_count h guards hs =
+writes_count h guards hs good =
     let last : List RegPair = pair (index_of Hwcfg0) 1 ∷ [] in
     omega (
       arith,
@@ -55,11 +48,11 @@ writes_count h guards hs =
       length-append (member_writes h hs) (hardware_writes 0 hs ++ last),
       length-append (hardware_writes 0 hs) last,
       mdcfg_count 0 0 hs,
-      members_count h hs (h.srcmd == 0) refl,
+      members_count h hs (format_of h good),
       hardware_count 0 hs,
     )
 
-few_writes : (p : PolicyOf) → IsPolicy p → need_refusal p ≡ None → length (image_of p).writes ≤ 4194304
+pub few_writes : (p : PolicyOf) → IsPolicy p → need_refusal p ≡ None → length (image_of p).writes ≤ 65536
 unfolding image_of
 few_writes p good e =
     let fits = none_needed p e in
@@ -67,7 +60,7 @@ few_writes p good e =
     let domains = m.domains in
     let entries = m.entries in
     let rrids = good.shape.valid.rrids in
-    omega (arith, writes_count p.shape (entry_count (hardware_of Guards p.domains)) (hardware p.domains))
+    omega (arith, writes_count p.shape (entry_count (hardware_of Guards p.domains)) (hardware p.domains) good.shape)
 
 -- ---- the commands
 

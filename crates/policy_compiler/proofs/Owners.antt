@@ -5,14 +5,14 @@ use Rattle.std.proofs.lemmas.Bool.{cases_lt}
 use Rattle.std.proofs.lemmas.Bool.Decides.{nat_tests}
 use Rattle.event_words.specs.declared.access.Kind.{Kind}
 use Rattle.event_words.specs.declared.access.Kind.TheVariants.{Read, Write, Fetch}
-use Rattle.event_words.specs.declared.register.Register.TheVariants.{SrcmdPerm}
-use Rattle.event_words.specs.Registers.{Registers, word_at, has_bit}
-use Rattle.event_words.specs.Guards.{reg}
-use Rattle.event_words.specs.Domains.{bound_of, is_bounded_by, owner_of, is_in_table, is_associated, domain_grants, by_kind}
+use Rattle.event_words.specs.Registers.{Registers, word_at, has_bit, has_pair_bit}
+use Rattle.event_words.specs.Domains.{bound_of, is_bounded_by, owner_of, has_first_permission, has_second_permission, is_in_table, is_associated, domain_grants, by_kind}
 use Rattle.policy_compiler.specs.declared.hardware.EntryWords.{EntryWords}
 use Rattle.policy_compiler.specs.Images.{HardwareOf, entry_count, enable_bits, permissions}
 use Rattle.policy_compiler.proofs.Finds.{find_none}
 use Rattle.policy_compiler.proofs.Puts.{end_at, members_at, all_entries, ReadsEntries}
+use Rattle.policy_compiler.proofs.SrcmdRows.{ReadsRow}
+use Rattle.policy_compiler.proofs.PairWords.{has_pair_bit-words}
 use Rattle.policy_compiler.proofs.Masks.{enable_member, permission_member}
 use Rattle.policy_compiler.proofs.Held.{HoldsEntries, Holds, entries_split}
 
@@ -69,33 +69,44 @@ associated_is r s m p q =
     rw (a, b) refl
 
 pub table_of_enables : (r : Registers) (hs : List HardwareOf) (m : ℕ) → r.shape.srcmd ≡ 0 → r.shape.sps ≡ false → m < length hs → length hs ≤ r.shape.domains
-    → ((s : ℕ) → s < r.shape.rrids → word_at r (1024 + 8 * s) ≡ enable_bits s 0 hs) → IsMemberTable r m (members_at hs m)
-table_of_enables r hs m f n p few words = record {
+    → ((s : ℕ) → s < r.shape.rrids → ReadsRow r.words (ltb 31 r.shape.domains) s (enable_bits s 0 hs)) → IsMemberTable r m (members_at hs m)
+table_of_enables r hs m f n p few rows = record {
   member = λ s l.
-      let t : is_in_table r s m ≡ has_bit (word_at r (1024 + 8 * s)) (m + 1) = rw f refl in
-      associated_is r s m l (omega arith) ∙ (t ∙ (ap (λ w. has_bit w (m + 1)) (words s l) ∙ enable_member s hs m p));
+      let row = rows s l in
+      let t : is_in_table r s m ≡ has_pair_bit (word_at r (1024 + 8 * s)) (word_at r (1025 + 8 * s)) (m + 1) = rw f refl in
+      let pair = has_pair_bit-words (word_at r (1024 + 8 * s)) (word_at r (1025 + 8 * s)) (enable_bits s 0 hs) (m + 1) row.low_word (λ g. row.high_word (search (nat_tests, arith))) in
+      associated_is r s m l (omega arith) ∙ (t ∙ (pair ∙ enable_member s hs m p));
   grants = λ s k l t. rw (f, n) refl;
 }
 
-both_bits : (r : Registers) (s m : ℕ) (k : Kind) → has_bit (reg r (SrcmdPerm m)) (2 * s) ≡ true → has_bit (reg r (SrcmdPerm m)) (2 * s + 1) ≡ true → by_kind k (has_bit (reg r (SrcmdPerm m)) (2 * s)) (has_bit (reg r (SrcmdPerm m)) (2 * s + 1)) ≡ true
-both_bits r s m Read a b = a
-both_bits r s m Write a b = b
-both_bits r s m Fetch a b = a
+both_bits : (k : Kind) (a b : Bool) → a ≡ true → b ≡ true → by_kind k a b ≡ true
+both_bits Read a b e f = e
+both_bits Write a b e f = f
+both_bits Fetch a b e f = e
 
 or_same : (a b c : Bool) → a ≡ c → b ≡ c → (a || b) ≡ c
 or_same a b true e f = rw e refl
-or_same a b false e f = rw e f
+or_same a b false e f = rw (e, f) refl
 
-pub table_of_permissions : (r : Registers) (members m : ℕ) → r.shape.srcmd ≡ 2 → m < r.shape.domains → word_at r (1024 + 8 * m) ≡ permissions r.shape.rrids members → IsMemberTable r m members
-table_of_permissions r members m f few word = record {
+-- a requester's two bits in the registers of a domain
+both_permissions : (r : Registers) (members m s : ℕ) → ReadsRow r.words (ltb 16 r.shape.rrids) m (permissions r.shape.rrids members) → s < r.shape.rrids
+    → (has_first_permission r s m ≡ has_bit members s) × (has_second_permission r s m ≡ has_bit members s)
+both_permissions r members m s row l =
+    let b = permission_member members r.shape.rrids s l in (
+      has_pair_bit-words (word_at r (1024 + 8 * m)) (word_at r (1025 + 8 * m)) (permissions r.shape.rrids members) (2 * s) row.low_word (λ g. row.high_word (search (nat_tests, arith))) ∙ b.0,
+      has_pair_bit-words (word_at r (1024 + 8 * m)) (word_at r (1025 + 8 * m)) (permissions r.shape.rrids members) (2 * s + 1) row.low_word (λ g. row.high_word (search (nat_tests, arith))) ∙ b.1,
+    )
+
+pub table_of_permissions : (r : Registers) (members m : ℕ) → r.shape.srcmd ≡ 2 → m < r.shape.domains → ReadsRow r.words (ltb 16 r.shape.rrids) m (permissions r.shape.rrids members) → IsMemberTable r m members
+table_of_permissions r members m f few row = record {
   member = λ s l.
-      let t : is_in_table r s m ≡ (has_bit (word_at r (1024 + 8 * m)) (2 * s) || has_bit (word_at r (1024 + 8 * m)) (2 * s + 1)) = rw f refl in
-      let b = permission_member members r.shape.rrids s l in
-      associated_is r s m l few ∙ (t ∙ or_same _ _ (has_bit members s) (ap (λ w. has_bit w (2 * s)) word ∙ b.0) (ap (λ w. has_bit w (2 * s + 1)) word ∙ b.1));
+      let t : is_in_table r s m ≡ (has_first_permission r s m || has_second_permission r s m) = rw f refl in
+      let b = both_permissions r members m s row l in
+      associated_is r s m l few ∙ (t ∙ or_same _ _ (has_bit members s) b.0 b.1);
   grants = λ s k l t.
-      let b = permission_member members r.shape.rrids s l in
-      let g : domain_grants r s m k ≡ by_kind k (has_bit (reg r (SrcmdPerm m)) (2 * s)) (has_bit (reg r (SrcmdPerm m)) (2 * s + 1)) = rw f refl in
-      g ∙ both_bits r s m k (ap (λ w. has_bit w (2 * s)) word ∙ (b.0 ∙ t)) (ap (λ w. has_bit w (2 * s + 1)) word ∙ (b.1 ∙ t));
+      let b = both_permissions r members m s row l in
+      let g : domain_grants r s m k ≡ by_kind k (has_first_permission r s m) (has_second_permission r s m) = rw f refl in
+      g ∙ both_bits k _ _ (b.0 ∙ t) (b.1 ∙ t);
 }
 
 -- ---- together

@@ -5,20 +5,23 @@ use Rattle.std.proofs.Math.Pow.{pow_mono}
 use Rattle.std.proofs.lemmas.Bool.Decides.{nat_tests}
 use Rattle.event_words.specs.declared.shape.Shape.{Shape}
 use Rattle.policy_compiler.specs.declared.policy.Rule.{Rule}
+use Rattle.policy_compiler.specs.declared.image.RegPair.{RegPair}
 use Rattle.policy_compiler.specs.declared.read.rules.RuleKind.{RuleKind}
 use Rattle.policy_compiler.specs.declared.read.rules.RuleKind.TheVariants.{Guards, Grants}
 use Rattle.policy_compiler.specs.declared.hardware.EntryWords.{EntryWords}
 use Rattle.policy_compiler.specs.Policies.{DomainOf, IsRule, AreRules, is_single, IsPolicyShape}
-use Rattle.policy_compiler.specs.Images.{HardwareOf, single_entry, two_entries, rule_entries, entries_of, rules_of, is_empty, hardware_of, entry_count, mdcfg_writes, enable_bits, enable_writes, permissions, permission_writes, entry_writes}
+use Rattle.policy_compiler.specs.Images.{HardwareOf, single_entry, two_entries, rule_entries, entries_of, rules_of, is_empty, hardware_of, entry_count, mdcfg_writes, enable_bits, permissions, entry_writes}
 use Rattle.policy_compiler.specs.Fitting.{HasRules}
-use Rattle.policy_compiler.proofs.Plain.{ArePlain, plain_mdcfg, plain_enable, plain_permission, plain_addr, plain_addrh, plain_cfg}
+use Rattle.policy_compiler.proofs.Plain.{ArePlain, plain_mdcfg, plain_enable, plain_high_enable, plain_permission, plain_high_permission, plain_addr, plain_addrh, plain_cfg}
+use Rattle.policy_compiler.proofs.PairWords.{domains_low, domains_high, rrids_low, rrids_high}
 use Rattle.policy_compiler.proofs.Puts.{all_entries}
+use Rattle.policy_compiler.proofs.SrcmdRows.{row_of, row_writes, enable_rows, permission_rows}
 use Rattle.policy_compiler.proofs.Masks.{enables_mask, mask_small, quads_small, permissions_is}
 
 -- ---- words of entries
 
 pub record IsEntry (e : EntryWords) : Type 0 where
-  pub word : e.word < 2 ^ 38
+  pub word : e.word < 2 ^ 50
   pub cfg : e.cfg < 32
 
 abbrev pub AreEntries : List EntryWords → Type 0
@@ -28,7 +31,7 @@ entries_append : (es fs : List EntryWords) → AreEntries es → AreEntries fs �
 entries_append [] fs a b = b
 entries_append (e ∷ es) fs a b = (a.0, entries_append es fs a.1 b)
 
-small_word : (n : ℕ) → n < 2 ^ 40 → n / 4 < 2 ^ 38
+small_word : (n : ℕ) → n < 2 ^ 52 → n / 4 < 2 ^ 50
 small_word n h = omega arith
 
 single_good : (u : Rule) (b : Bool) → (u.size == 4) ≡ b → IsRule u → IsEntry (single_entry u)
@@ -41,8 +44,8 @@ or_else false b e f = e
 
 pair_good : (u : Rule) → is_single u.from u.size ≡ false → IsRule u → AreEntries (two_entries u)
 pair_good u s h =
-    let top = or_else (is_single u.from u.size) (ltb (u.from + u.size) (2 ^ 40)) h.top s in
-    let below : u.from + u.size < 2 ^ 40 = grind (arith, nat_tests) in
+    let top = or_else (is_single u.from u.size) (ltb (u.from + u.size) (2 ^ 52)) h.top s in
+    let below : u.from + u.size < 2 ^ 52 = grind (arith, nat_tests) in
     let c = h.rights in
     (record { word = omega arith; cfg = omega arith }, (record { word = omega arith; cfg = omega arith }, tt))
 
@@ -95,17 +98,34 @@ enable_value h s hs few =
     let p : 2 ^ length hs ≤ 2 ^ h.domains = pow_mono {j = h.domains} few in
     (omega arith, omega arith)
 
-pub plain_enables : (h : Shape) (hs : List HardwareOf) (s n : ℕ) → IsPolicyShape h → h.srcmd ≡ 0 → length hs ≤ h.domains → s + n ≤ h.rrids → ArePlain h (enable_writes hs s n)
-plain_enables h hs s zero good f few p = tt
-plain_enables h hs s (suc n) good f few p =
-    let v = enable_value h s hs few in
-    (plain_enable h s (enable_bits s 0 hs) good f (omega arith) v.0 v.1, plain_enables h hs (s + 1) n good f few (omega arith))
+enables_plain : (h : Shape) (high : Bool) (s n : ℕ) (rest : List RegPair) → IsPolicyShape h → h.srcmd ≡ 0 → s < h.rrids → (n % 2 ≡ 0) × (n / 2 < 2 ^ h.domains) → ArePlain h rest → ArePlain h (row_of high s n ++ rest)
+enables_plain h true s n rest good f p v more = (
+  plain_enable h s (n % 2 ^ 32) good f p (let even = v.0 in omega arith) (domains_low h.domains n v.1),
+  (plain_high_enable h s (n / 2 ^ 32) good f p (domains_high h.domains n v.1), more),
+)
+enables_plain h false s n rest good f p v more = (plain_enable h s (n % 2 ^ 32) good f p (let even = v.0 in omega arith) (domains_low h.domains n v.1), more)
 
-pub plain_permissions : (h : Shape) (m : ℕ) (hs : List HardwareOf) → IsPolicyShape h → h.srcmd ≡ 2 → m + length hs ≤ h.domains → ArePlain h (permission_writes h.rrids m hs)
-plain_permissions h m [] good f few = tt
-plain_permissions h m (x ∷ hs) good f few =
-    let small : permissions h.rrids x.members < 2 ^ (2 * h.rrids) = rw (permissions_is x.members h.rrids) (quads_small x.members 0 h.rrids) in
-    (plain_permission h m (permissions h.rrids x.members) good f (omega arith) small, plain_permissions h (m + 1) hs good f (omega arith))
+pub plain_enables : (h : Shape) (high : Bool) (hs : List HardwareOf) (s n : ℕ) → IsPolicyShape h → h.srcmd ≡ 0 → length hs ≤ h.domains → s + n ≤ h.rrids → ArePlain h (row_writes high s (enable_rows hs s n))
+plain_enables h high hs s zero good f few p = tt
+plain_enables h high hs s (suc n) good f few p =
+    enables_plain h high s (enable_bits s 0 hs) (row_writes high (s + 1) (enable_rows hs (s + 1) n)) good f (omega arith) (enable_value h s hs few)
+    (plain_enables h high hs (s + 1) n good f few (omega arith))
+
+permissions_plain : (h : Shape) (high : Bool) (m n : ℕ) (rest : List RegPair) → IsPolicyShape h → h.srcmd ≡ 2 → m < h.domains → n < 2 ^ (2 * h.rrids) → ArePlain h rest → ArePlain h (row_of high m n ++ rest)
+permissions_plain h true m n rest good f p small more = (
+  plain_permission h m (n % 2 ^ 32) good f p (rrids_low h.rrids n small),
+  (plain_high_permission h m (n / 2 ^ 32) good f p (rrids_high h.rrids n small), more),
+)
+permissions_plain h false m n rest good f p small more = (plain_permission h m (n % 2 ^ 32) good f p (rrids_low h.rrids n small), more)
+
+pub permissions_small : (n members : ℕ) → permissions n members < 2 ^ (2 * n)
+permissions_small n members = rw (permissions_is members n) (quads_small members 0 n)
+
+pub plain_permissions : (h : Shape) (high : Bool) (m : ℕ) (hs : List HardwareOf) → IsPolicyShape h → h.srcmd ≡ 2 → m + length hs ≤ h.domains → ArePlain h (row_writes high m (permission_rows h.rrids hs))
+plain_permissions h high m [] good f few = tt
+plain_permissions h high m (x ∷ hs) good f few =
+    permissions_plain h high m (permissions h.rrids x.members) (row_writes high (m + 1) (permission_rows h.rrids hs)) good f (omega arith) (permissions_small h.rrids x.members)
+    (plain_permissions h high (m + 1) hs good f (omega arith))
 
 pub plain_entries : (h : Shape) (i : ℕ) (es : List EntryWords) → i + length es ≤ h.entries → AreEntries es → ArePlain h (entry_writes i es)
 plain_entries h i [] few good = tt

@@ -5,7 +5,7 @@ use Rattle.std.proofs.Math.ListN.{length-set}
 use Rattle.std.proofs.lemmas.List.{get_or-set_same, get_or-set_other}
 use Rattle.policy_compiler.specs.declared.image.RegPair.{RegPair}
 use Rattle.policy_compiler.specs.declared.hardware.EntryWords.{EntryWords}
-use Rattle.policy_compiler.specs.Images.{HardwareOf, pair, mdcfg_writes, enable_bits, enable_writes, permissions, permission_writes, entry_writes, hardware_writes}
+use Rattle.policy_compiler.specs.Images.{HardwareOf, pair, mdcfg_writes, entry_writes, hardware_writes}
 use Rattle.policy_compiler.proofs.Plain.{puts}
 
 -- ---- indexes that writes leave alone
@@ -31,17 +31,13 @@ pub puts_append : (ws : List ℕ) (ps qs : List RegPair) → puts ws (ps ++ qs) 
 puts_append ws [] qs = refl
 puts_append ws (p ∷ ps) qs = puts_append (set ws p.index p.value) ps qs
 
+pub append_within : (low high : ℕ) (ps qs : List RegPair) → AreWithin low high ps → AreWithin low high qs → AreWithin low high (ps ++ qs)
+append_within low high [] qs a b = b
+append_within low high (p ∷ ps) qs a b = (a.0, append_within low high ps qs a.1 b)
+
 pub mdcfg_within : (m before : ℕ) (hs : List HardwareOf) (low high : ℕ) → low ≤ 512 + m → 512 + (m + length hs) ≤ high → AreWithin low high (mdcfg_writes m before hs)
 mdcfg_within m before [] low high p q = tt
 mdcfg_within m before (h ∷ hs) low high p q = ((omega arith, omega arith), mdcfg_within (m + 1) (before + length h.entries) hs low high (omega arith) (omega arith))
-
-pub enables_within : (hs : List HardwareOf) (s n low high : ℕ) → low ≤ 1024 + 8 * s → 1024 + 8 * (s + n) ≤ high → AreWithin low high (enable_writes hs s n)
-enables_within hs s zero low high p q = tt
-enables_within hs s (suc n) low high p q = ((omega arith, omega arith), enables_within hs (s + 1) n low high (omega arith) (omega arith))
-
-pub permissions_within : (rrids m : ℕ) (hs : List HardwareOf) (low high : ℕ) → low ≤ 1024 + 8 * m → 1024 + 8 * (m + length hs) ≤ high → AreWithin low high (permission_writes rrids m hs)
-permissions_within rrids m [] low high p q = tt
-permissions_within rrids m (h ∷ hs) low high p q = ((omega arith, omega arith), permissions_within rrids (m + 1) hs low high (omega arith) (omega arith))
 
 pub entries_within : (i : ℕ) (es : List EntryWords) (low high : ℕ) → low ≤ 2048 + 4 * i → 2048 + 4 * (i + length es) ≤ high → AreWithin low high (entry_writes i es)
 entries_within i [] low high p q = tt
@@ -71,40 +67,13 @@ mdcfg_read ws m before (h ∷ hs) (suc k) room reset =
     ap (λ i. get_or (puts (set ws (512 + m) (before + length h.entries)) (mdcfg_writes (m + 1) (before + length h.entries) hs)) i 0) e
     ∙ mdcfg_read (set ws (512 + m) (before + length h.entries)) (m + 1) (before + length h.entries) hs k (omega (arith, length-set ws (512 + m) (before + length h.entries))) keeps
 
--- ---- SRCMD_EN and SRCMD_PERM
-
-pub enables_read : (ws : List ℕ) (hs : List HardwareOf) (s n k : ℕ) → k < n → 1024 + 8 * (s + n) ≤ length ws + 7 → get_or (puts ws (enable_writes hs s n)) (1024 + 8 * (s + k)) 0 ≡ enable_bits (s + k) 0 hs
-enables_read ws hs s zero k p room = absurd (omega arith)
-enables_read ws hs s (suc n) zero p room =
-    let e : s + zero ≡ s = omega arith in
-    ap (λ t. get_or (puts (set ws (1024 + 8 * s) (enable_bits s 0 hs)) (enable_writes hs (s + 1) n)) (1024 + 8 * t) 0) e
-    ∙ (untouched (set ws (1024 + 8 * s) (enable_bits s 0 hs)) (enable_writes hs (s + 1) n) (1024 + 8 * (s + 1)) (1024 + 8 * ((s + 1) + n)) (1024 + 8 * s)
-    (enables_within hs (s + 1) n (1024 + 8 * (s + 1)) (1024 + 8 * ((s + 1) + n)) (omega arith) (omega arith)) (inl (omega arith))
-    ∙ (get_or-set_same ws (1024 + 8 * s) (enable_bits s 0 hs) 0 (omega arith) ∙ ap (λ t. enable_bits t 0 hs) (sym e)))
-enables_read ws hs s (suc n) (suc k) p room =
-    let e : s + suc k ≡ (s + 1) + k = omega arith in
-    ap (λ t. get_or (puts (set ws (1024 + 8 * s) (enable_bits s 0 hs)) (enable_writes hs (s + 1) n)) (1024 + 8 * t) 0) e
-    ∙ (enables_read (set ws (1024 + 8 * s) (enable_bits s 0 hs)) hs (s + 1) n k (omega arith) (omega (arith, length-set ws (1024 + 8 * s) (enable_bits s 0 hs)))
-    ∙ ap (λ t. enable_bits t 0 hs) (sym e))
+-- ---- members
 
 -- the members of domain k of these
 abbrev pub members_at : List HardwareOf → ℕ → ℕ
 members_at [] k = 0
 members_at (h ∷ hs) zero = h.members
 members_at (h ∷ hs) (suc k) = members_at hs k
-
-pub permissions_read : (ws : List ℕ) (rrids m : ℕ) (hs : List HardwareOf) (k : ℕ) → k < length hs → 1024 + 8 * (m + length hs) ≤ length ws + 7 → get_or (puts ws (permission_writes rrids m hs)) (1024 + 8 * (m + k)) 0 ≡ permissions rrids (members_at hs k)
-permissions_read ws rrids m [] k p room = absurd (omega arith)
-permissions_read ws rrids m (h ∷ hs) zero p room =
-    let e : m + zero ≡ m = omega arith in
-    ap (λ t. get_or (puts (set ws (1024 + 8 * m) (permissions rrids h.members)) (permission_writes rrids (m + 1) hs)) (1024 + 8 * t) 0) e
-    ∙ (untouched (set ws (1024 + 8 * m) (permissions rrids h.members)) (permission_writes rrids (m + 1) hs) (1024 + 8 * (m + 1)) (1024 + 8 * ((m + 1) + length hs)) (1024 + 8 * m)
-    (permissions_within rrids (m + 1) hs (1024 + 8 * (m + 1)) (1024 + 8 * ((m + 1) + length hs)) (omega arith) (omega arith)) (inl (omega arith))
-    ∙ get_or-set_same ws (1024 + 8 * m) (permissions rrids h.members) 0 (omega arith))
-permissions_read ws rrids m (h ∷ hs) (suc k) p room =
-    let e : m + suc k ≡ (m + 1) + k = omega arith in
-    ap (λ t. get_or (puts (set ws (1024 + 8 * m) (permissions rrids h.members)) (permission_writes rrids (m + 1) hs)) (1024 + 8 * t) 0) e
-    ∙ permissions_read (set ws (1024 + 8 * m) (permissions rrids h.members)) rrids (m + 1) hs k (omega arith) (omega (arith, length-set ws (1024 + 8 * m) (permissions rrids h.members)))
 
 -- ---- entries
 

@@ -10,7 +10,7 @@ use Rattle.std.proofs.lemmas.Bool.Decides.{nat_tests}
 use Rattle.std.proofs.lemmas.Nat.{mod_below, pow_pos, and_le_r}
 use Rattle.event_words.specs.declared.shape.Shape.{Shape}
 use Rattle.event_words.specs.declared.register.Register.{Register}
-use Rattle.event_words.specs.declared.register.Register.TheVariants.{Hwcfg0, Hwcfg2, Mdcfg, SrcmdEn, SrcmdR, SrcmdW, SrcmdPerm, EntryAddr, EntryAddrh, EntryCfg}
+use Rattle.event_words.specs.declared.register.Register.TheVariants.{Hwcfg0, Hwcfg2, Mdcfg, SrcmdEn, SrcmdEnh, SrcmdR, SrcmdRh, SrcmdW, SrcmdWh, SrcmdPerm, SrcmdPermh, EntryAddr, EntryAddrh, EntryCfg}
 use Rattle.event_words.specs.Registers.{Registers, word_at, bits_of, has_bit, named_at, srcmd_at, entry_at, if_had, has_register, fields_of, ruled_word, merged, set_word, reset_of, reset_word, index_count, at_reset}
 use Rattle.event_words.specs.Guards.{is_enabled, is_prient_prog}
 use Rattle.policy_compiler.specs.declared.image.RegPair.{RegPair}
@@ -58,6 +58,7 @@ stands_same h ps r s shape len same c =
         shape = shape ∙ c.unlocked.shape;
         len = len ∙ c.unlocked.len;
         mdlck = same 16 (inl (omega arith)) ∙ c.unlocked.mdlck;
+        mdlckh = same 17 (inl (omega arith)) ∙ c.unlocked.mdlckh;
         mdcfglck = same 18 (inl (omega arith)) ∙ c.unlocked.mdcfglck;
         entrylck = same 19 (inl (omega arith)) ∙ c.unlocked.entrylck;
         enables = λ f n l. ap (λ w. w % 2) (same (1024 + 8 * n) (inr (omega arith))) ∙ c.unlocked.enables f n l;
@@ -77,6 +78,7 @@ unlocked_set h r i v out even c = record {
   shape = c.shape;
   len = length-set r.words i v ∙ c.len;
   mdlck = other r.words i 16 v (λ e. ⊎_elim (λ (a : i < 16). absurd (omega arith)) (λ (b : 20 ≤ i). absurd (omega arith)) out) ∙ c.mdlck;
+  mdlckh = other r.words i 17 v (λ e. ⊎_elim (λ (a : i < 16). absurd (omega arith)) (λ (b : 20 ≤ i). absurd (omega arith)) out) ∙ c.mdlckh;
   mdcfglck = other r.words i 18 v (λ e. ⊎_elim (λ (a : i < 16). absurd (omega arith)) (λ (b : 20 ≤ i). absurd (omega arith)) out) ∙ c.mdcfglck;
   entrylck = other r.words i 19 v (λ e. ⊎_elim (λ (a : i < 16). absurd (omega arith)) (λ (b : 20 ≤ i). absurd (omega arith)) out) ∙ c.entrylck;
   enables = λ f s l. set_even r.words i (1024 + 8 * s) v (c.enables f s l) (even f s l);
@@ -232,10 +234,15 @@ zero_if_had h (Some q) e = cond_both (has_register h q) (Some q) None (λ o. res
 srcmd_zero : (h : Shape) (row place : ℕ) → reset_of h (srcmd_at h row place) ≡ 0
 srcmd_zero h row place =
     let P : Option Register → Type 0 = λ o. reset_of h o ≡ 0 in
-    cond_both (h.srcmd == 2) _ _ P (λ t. cond_both (place == 0) (Some (SrcmdPerm row)) None P (λ e. omega arith) (λ e. refl))
+    cond_both (h.srcmd == 2) _ _ P
+    (λ t. cond_both (place == 0) (Some (SrcmdPerm row)) _ P (λ e. omega arith)
+    (λ e. cond_both (place == 1) (Some (SrcmdPermh row)) None P (λ e. omega arith) (λ e. refl)))
     (λ t. cond_both (place == 0) (Some (SrcmdEn row)) _ P (λ e. omega arith)
+    (λ e. cond_both (place == 1) (Some (SrcmdEnh row)) _ P (λ e. omega arith)
     (λ e. cond_both (place == 2) (Some (SrcmdR row)) _ P (λ e. omega arith)
-    (λ e. cond_both (place == 4) (Some (SrcmdW row)) None P (λ e. omega arith) (λ e. refl))))
+    (λ e. cond_both (place == 3) (Some (SrcmdRh row)) _ P (λ e. omega arith)
+    (λ e. cond_both (place == 4) (Some (SrcmdW row)) _ P (λ e. omega arith)
+    (λ e. cond_both (place == 5) (Some (SrcmdWh row)) None P (λ e. omega arith) (λ e. refl)))))))
 
 entry_zero : (h : Shape) (row place : ℕ) → reset_of h (entry_at row place) ≡ 0
 entry_zero h row place =

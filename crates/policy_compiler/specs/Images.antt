@@ -1,7 +1,8 @@
 -- The register writes that make a unit decide as a policy does.
-use Rattle.std.specs.Prelude.{ℕ, zero, suc, ◌+◌, ◌-◌, ◌*◌, ◌^◌, ◌/◌, ◌%◌, ◌==◌, Bool, if◌then◌else◌, List, [], ◌∷◌, ◌++◌, length}
+use Rattle.std.specs.Prelude.{ℕ, zero, suc, ◌+◌, ◌-◌, ◌*◌, ◌^◌, ◌/◌, ◌%◌, ◌==◌, nat_lt, Bool, if◌then◌else◌, List, [], ◌∷◌, ◌++◌, length}
 use Rattle.event_words.specs.declared.shape.Shape.{Shape}
-use Rattle.event_words.specs.declared.register.Register.TheVariants.{Hwcfg0, Hwcfg2, Mdcfg, SrcmdEn, SrcmdPerm, EntryAddr, EntryAddrh, EntryCfg}
+use Rattle.event_words.specs.declared.register.Register.{Register}
+use Rattle.event_words.specs.declared.register.Register.TheVariants.{Hwcfg0, Hwcfg2, Mdcfg, SrcmdEn, SrcmdEnh, SrcmdPerm, SrcmdPermh, EntryAddr, EntryAddrh, EntryCfg}
 use Rattle.event_words.specs.Registers.{index_of, has_bit}
 use Rattle.register_fields.specs.Rights.{rights_bits}
 use Rattle.policy_compiler.specs.declared.policy.Rule.{Rule}
@@ -77,15 +78,26 @@ mdcfg_writes m before [] = []
 mdcfg_writes m before (h ∷ hs) =
     pair (index_of (Mdcfg m)) (before + length h.entries) ∷ mdcfg_writes (m + 1) (before + length h.entries) hs
 
+-- A low register, and its high one where the unit has that: the bits of both as one number.
+abbrev pub pair_writes : Register → Register → Bool → ℕ → List RegPair
+pair_writes low high has_high bits =
+    pair (index_of low) (bits % 2 ^ 32)
+    ∷ (if has_high then pair (index_of high) (bits / 2 ^ 32) ∷ [] else [])
+
 -- bit m + 1 for domain m and those after it, where the requester is a member
 abbrev pub enable_bits : ℕ → ℕ → List HardwareOf → ℕ
 enable_bits s m [] = 0
 enable_bits s m (h ∷ hs) = (if has_bit h.members s then 2 ^ (m + 1) else 0) + enable_bits s (m + 1) hs
 
--- SRCMD_EN(s) and those of the n requesters from s on
-abbrev pub enable_writes : List HardwareOf → ℕ → ℕ → List RegPair
-enable_writes hs s zero = []
-enable_writes hs s (suc n) = pair (index_of (SrcmdEn s)) (enable_bits s 0 hs) ∷ enable_writes hs (s + 1) n
+-- SRCMD_EN(s), followed at once by SRCMD_ENH(s) where the unit has more than 31 domains
+abbrev pub enables_of : ℕ → List HardwareOf → ℕ → List RegPair
+enables_of domains hs s =
+    pair_writes (SrcmdEn s) (SrcmdEnh s) (nat_lt 31 domains) (enable_bits s 0 hs)
+
+-- those of the n requesters from s on
+abbrev pub enable_writes : ℕ → List HardwareOf → ℕ → ℕ → List RegPair
+enable_writes domains hs s zero = []
+enable_writes domains hs s (suc n) = enables_of domains hs s ++ enable_writes domains hs (s + 1) n
 
 -- both bits of a requester, where it is a member
 abbrev pub permission : ℕ → ℕ → ℕ
@@ -99,15 +111,20 @@ permissions_from members s (suc n) = permission members s + permissions_from mem
 unfoldable pub permissions : ℕ → ℕ → ℕ
 permissions rrids members = permissions_from members 0 rrids
 
+-- SRCMD_PERM(m), followed at once by SRCMD_PERMH(m) where the unit has more than 16 requesters
+abbrev pub permissions_of : ℕ → ℕ → ℕ → List RegPair
+permissions_of rrids m members =
+    pair_writes (SrcmdPerm m) (SrcmdPermh m) (nat_lt 16 rrids) (permissions rrids members)
+
 abbrev pub permission_writes : ℕ → ℕ → List HardwareOf → List RegPair
 permission_writes rrids m [] = []
 permission_writes rrids m (h ∷ hs) =
-    pair (index_of (SrcmdPerm m)) (permissions rrids h.members) ∷ permission_writes rrids (m + 1) hs
+    permissions_of rrids m h.members ++ permission_writes rrids (m + 1) hs
 
--- SRCMD_EN of each requester in format 0, SRCMD_PERM of each hardware domain in format 2
+-- The SRCMD registers of each requester in format 0, those of each hardware domain in format 2.
 unfoldable pub member_writes : Shape → List HardwareOf → List RegPair
 member_writes h hs =
-    if h.srcmd == 0 then enable_writes hs 0 h.rrids
+    if h.srcmd == 0 then enable_writes h.domains hs 0 h.rrids
     else permission_writes h.rrids 0 hs
 
 -- the three registers of entry i and of those after it

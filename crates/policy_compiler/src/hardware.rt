@@ -12,7 +12,7 @@ use bitflags::Flags;
 use std::alloc::{AllocError, Global};
 use std::marker::Model;
 
-/// The words of an entry: its word address, 38 bits, and its configuration.
+/// The words of an entry: its word address, 50 bits, and its configuration.
 #[derive(Clone, Copy, Debug, PartialEq, Eq)]
 pub struct EntryWords {
     pub word: u64,

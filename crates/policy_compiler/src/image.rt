@@ -115,6 +115,10 @@ fn lawful_image(alloc: Global, policy: &Policy) -> Result<Image, AllocError>
 /// Compiles a policy, which must be one that `read_policy` can give. It needs a hardware domain for
 /// each policy domain that has guards and one for each that has grants, an entry for each rule that
 /// one entry can hold and two for each other rule.
+///
+/// The writes are, in this order, HWCFG2, MDCFG of each hardware domain, the SRCMD registers, the
+/// entries, and at last HWCFG0. A high SRCMD register comes right after its low one, where the unit
+/// has more than 31 domains, or in format 2 more than 16 requesters.
 pub fn compile(alloc: Global, policy: &Policy) -> Result<Image, CompileError>
     requires { IsPolicy policy.now }
     ensures image { Compiles (need_refusal policy.now) result policy.now }

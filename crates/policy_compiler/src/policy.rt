@@ -8,7 +8,7 @@ use std::marker::Model;
 pub struct Rule {
     /// The address of the first byte, a multiple of 4.
     pub from: u64,
-    /// The number of bytes, a multiple of 4 and at least 4. `from + size` is at most 2^40.
+    /// The number of bytes, a multiple of 4 and at least 4. `from + size` is at most 2^52.
     pub size: u64,
     /// What is allowed there.
     pub rights: Rights,

@@ -49,6 +49,10 @@ fn refusal(fault: Fault) -> PolicyError
 /// Reads a policy. The refusals are the first fault of the text: no TOML document, then the tables
 /// in the order top, `unit`, and each `domain` with its guards and then its grants. In a table an
 /// unknown key comes first, and then the keys in the order of their numbers in `Path`.
+///
+/// A unit has 1 to 64 requesters, at most 32 of them in SRCMD format 2, 1 to 63 domains and 1 to
+/// 1024 entries. A rule's `from` and `size` are multiples of 4, and it ends at 2^52 at most, or
+/// below where it takes two entries.
 pub fn read_policy(alloc: Global, bytes: &[u8]) -> Result<Policy, PolicyError>
     ensures document { Reads result bytes.now }
     ensures good { IfOk result IsPolicy }

@@ -1,3 +1,4 @@
+-- Sums over the fields of a register, and fields that fit a word.
 use Rattle.std.specs.Prelude.{ℕ, ◌+◌, ◌^◌, ◌<◌, ◌≤◌, List, sum_by}
 use Rattle.std.specs.List.{AllByRecursion}
 use Rattle.event_words.specs.declared.register.Field.{Field}

@@ -1,7 +1,8 @@
 // The fields of each register, in one table: their lowest bits, widths, rules and reset values.
-ghost use Rattle.std.specs.Prelude.{◌≡◌, ℕ, ◌+◌, ◌*◌, ◌^◌, ◌<◌, ◌≤◌, IsTrue, sum_by};
+ghost use Rattle.std.specs.Prelude.{◌≡◌, ℕ, ◌+◌, ◌*◌, ◌^◌, ◌<◌, ◌≤◌, [], ◌∷◌, IsTrue, sum_by};
+ghost use Rattle.event_words.specs.declared.shape.Shape.{Shape};
 ghost use Rattle.event_words.specs.Valid.{IsValidShape};
-ghost use Rattle.event_words.specs.Registers.{has_register, fields_of, ruled, bits_of};
+ghost use Rattle.event_words.specs.Registers.{has_register, field, fields_of, ruled, bits_of};
 ghost use Rattle.event_words.specs.Guards.{field_bits, read_only_bits, whole};
 ghost use Rattle.register_fields.specs.Tables.{IsTable, IsField, term_of};
 
@@ -91,104 +92,107 @@ const fn field(low: u8, width: u8, rule: Rule, reset: u32) -> Field
     }
 }
 
+/// The sum over one field that begins at bit 0.
+fn from_zero(width: u8, rule: Rule, term: Term) -> u32
+    requires { width ≤ 32 }
+    ensures { result ≡ sum_by (term_of term) (field 0 width rule 0 ∷ []) }
+{
+    sum_of(&[field(0, width, rule, 0)], term)
+}
+
+/// The sum over one field that begins at bit 1.
+fn from_one(width: u8, rule: Rule, term: Term) -> u32
+    requires { width ≤ 31 }
+    ensures { result ≡ sum_by (term_of term) (field 1 width rule 0 ∷ []) }
+{
+    sum_of(&[field(1, width, rule, 0)], term)
+}
+
+/// The sum over a lock bit and the field above it.
+fn with_lock(width: u8, rule: Rule, term: Term) -> u32
+    requires { width ≤ 31 }
+    ensures { result ≡ sum_by (term_of term) (field 0 1 Rule.SetOnly 0 ∷ field 1 width rule 0 ∷ []) }
+{
+    sum_of(
+        &[field(0, 1, Rule::SetOnly, 0), field(1, width, rule, 0)],
+        term,
+    )
+}
+
 /// The sum over the fields of a register of this shape.
 pub fn total(shape: &Shape, register: Register, term: Term) -> u32
     requires shape { IsValidShape shape.now }
     requires there { IsTrue (has_register shape.now register) }
     ensures { result ≡ sum_by (term_of term) (fields_of shape.now register) }
 {
-    let domains = shape.domains;
+    let low = shape.domains.min(31);
+    let high = shape.domains.saturating_sub(31);
     match register {
         Register::Hwcfg0 => total_hwcfg0(shape, term),
-        Register::Hwcfg1 => sum_of(
-            &[
-                field(0, 16, Rule::ReadOnly, shape.rrids as u32),
-                field(16, 16, Rule::ReadOnly, shape.entries as u32),
-            ],
-            term,
-        ),
-        Register::Hwcfg2 => sum_of(
-            &[
-                field(0, 16, Rule::ReadWrite, 0),
-                field(16, 16, Rule::ReadOnly, shape.transl.unwrap_or(0) as u32),
-            ],
-            term,
-        ),
+        Register::Hwcfg1 => total_hwcfg1(shape, term),
+        Register::Hwcfg2 => total_hwcfg2(shape, term),
+        Register::Mdlck => with_lock(low, Rule::SetOnly, term),
+        Register::Mdlckh => from_zero(high, Rule::SetOnly, term),
+        Register::Mdcfglck => with_lock(7, Rule::GrowOnly, term),
+        Register::Entrylck => with_lock(16, Rule::GrowOnly, term),
+        Register::ErrCfg => total_err_cfg(term),
+        Register::ErrInfo => total_err_info(term),
+        Register::ErrReqaddr => from_zero(32, Rule::Captured, term),
+        Register::ErrReqaddrh => from_zero(18, Rule::Captured, term),
+        Register::ErrReqid => total_err_reqid(term),
+        Register::Rridscp | Register::Mdcfg(_) => from_zero(16, Rule::ReadWrite, term),
+        Register::SrcmdEn(_) => with_lock(low, Rule::ReadWrite, term),
         Register::Mdstall | Register::SrcmdR(_) | Register::SrcmdW(_) => {
-            sum_of(&[field(1, domains, Rule::ReadWrite, 0)], term)
+            from_one(low, Rule::ReadWrite, term)
         }
-        Register::Rridscp | Register::Mdcfg(_) => {
-            sum_of(&[field(0, 16, Rule::ReadWrite, 0)], term)
+        Register::Mdstallh | Register::SrcmdEnh(_) | Register::SrcmdRh(_) | Register::SrcmdWh(_) =>
+            from_zero(high, Rule::ReadWrite, term),
+        Register::SrcmdPerm(_) => from_zero(2 * shape.rrids.min(16), Rule::ReadWrite, term),
+        Register::SrcmdPermh(_) => {
+            from_zero(2 * shape.rrids.saturating_sub(16), Rule::ReadWrite, term)
         }
-        Register::Mdlck => sum_of(
-            &[
-                field(0, 1, Rule::SetOnly, 0),
-                field(1, domains, Rule::SetOnly, 0),
-            ],
-            term,
-        ),
-        Register::Mdcfglck => sum_of(
-            &[
-                field(0, 1, Rule::SetOnly, 0),
-                field(1, 7, Rule::GrowOnly, 0),
-            ],
-            term,
-        ),
-        Register::Entrylck => sum_of(
-            &[
-                field(0, 1, Rule::SetOnly, 0),
-                field(1, 16, Rule::GrowOnly, 0),
-            ],
-            term,
-        ),
-        Register::ErrCfg => sum_of(
-            &[
-                field(0, 1, Rule::SetOnly, 0),
-                field(1, 1, Rule::ReadWrite, 0),
-                field(2, 1, Rule::ReadWrite, 0),
-                field(3, 1, Rule::ReadWrite, 0),
-            ],
-            term,
-        ),
-        Register::ErrInfo => sum_of(
-            &[
-                field(0, 1, Rule::WriteOneClear, 0),
-                field(1, 2, Rule::Captured, 0),
-                field(4, 4, Rule::Captured, 0),
-            ],
-            term,
-        ),
-        Register::ErrReqaddr => sum_of(&[field(0, 32, Rule::Captured, 0)], term),
-        Register::ErrReqaddrh => sum_of(&[field(0, 6, Rule::Captured, 0)], term),
-        Register::ErrReqid => sum_of(
-            &[
-                field(0, 16, Rule::Captured, 0),
-                field(16, 16, Rule::Captured, 0),
-            ],
-            term,
-        ),
-        Register::SrcmdEn(_) => sum_of(
-            &[
-                field(0, 1, Rule::SetOnly, 0),
-                field(1, domains, Rule::ReadWrite, 0),
-            ],
-            term,
-        ),
-        Register::SrcmdPerm(_) => { sum_of(&[field(0, 2 * shape.rrids, Rule::ReadWrite, 0)], term) }
-        Register::EntryAddr(_) => sum_of(&[field(0, 32, Rule::ReadWrite, 0)], term),
-        Register::EntryAddrh(_) => sum_of(&[field(0, 6, Rule::ReadWrite, 0)], term),
-        Register::EntryCfg(_) => sum_of(
-            &[
-                field(0, 1, Rule::ReadWrite, 0),
-                field(1, 1, Rule::ReadWrite, 0),
-                field(2, 1, Rule::ReadWrite, 0),
-                field(3, 2, Rule::ReadWrite, 0),
-                field(5, 3, Rule::ReadWrite, 0),
-                field(8, 3, Rule::ReadWrite, 0),
-            ],
-            term,
-        ),
+        Register::EntryAddr(_) => from_zero(32, Rule::ReadWrite, term),
+        Register::EntryAddrh(_) => from_zero(18, Rule::ReadWrite, term),
+        Register::EntryCfg(_) => total_entry_cfg(term),
     }
+}
+
+fn total_hwcfg1(shape: &Shape, term: Term) -> u32
+    requires { IsValidShape shape.now }
+    ensures { result ≡ sum_by (term_of term) (fields_of shape.now Register.Hwcfg1) }
+{
+    sum_of(
+        &[
+            field(0, 16, Rule::ReadOnly, shape.rrids as u32),
+            field(16, 16, Rule::ReadOnly, shape.entries as u32),
+        ],
+        term,
+    )
+}
+
+fn total_hwcfg2(shape: &Shape, term: Term) -> u32
+    requires { IsValidShape shape.now }
+    ensures { result ≡ sum_by (term_of term) (fields_of shape.now Register.Hwcfg2) }
+{
+    sum_of(
+        &[
+            field(0, 16, Rule::ReadWrite, 0),
+            field(16, 16, Rule::ReadOnly, shape.transl.unwrap_or(0) as u32),
+        ],
+        term,
+    )
+}
+
+fn total_err_reqid(term: Term) -> u32
+    ensures { (h : Shape) → result ≡ sum_by (term_of term) (fields_of h Register.ErrReqid) }
+{
+    sum_of(
+        &[
+            field(0, 16, Rule::Captured, 0),
+            field(16, 16, Rule::Captured, 0),
+        ],
+        term,
+    )
 }
 
 fn total_hwcfg0(shape: &Shape, term: Term) -> u32
@@ -210,6 +214,49 @@ fn total_hwcfg0(shape: &Shape, term: Term) -> u32
             field(12, 1, Rule::ReadOnly, shape.transl.is_some() as u32),
             field(13, 1, Rule::ClearOnly, 1),
             field(17, 7, entry_rule, shape.k.saturating_sub(1) as u32),
+        ],
+        term,
+    )
+}
+
+fn total_err_cfg(term: Term) -> u32
+    ensures { (h : Shape) → result ≡ sum_by (term_of term) (fields_of h Register.ErrCfg) }
+{
+    sum_of(
+        &[
+            field(0, 1, Rule::SetOnly, 0),
+            field(1, 1, Rule::ReadWrite, 0),
+            field(2, 1, Rule::ReadWrite, 0),
+            field(3, 1, Rule::ReadWrite, 0),
+        ],
+        term,
+    )
+}
+
+fn total_err_info(term: Term) -> u32
+    ensures { (h : Shape) → result ≡ sum_by (term_of term) (fields_of h Register.ErrInfo) }
+{
+    sum_of(
+        &[
+            field(0, 1, Rule::WriteOneClear, 0),
+            field(1, 2, Rule::Captured, 0),
+            field(4, 4, Rule::Captured, 0),
+        ],
+        term,
+    )
+}
+
+fn total_entry_cfg(term: Term) -> u32
+    ensures { (h : Shape) (n : ℕ) → result ≡ sum_by (term_of term) (fields_of h (Register.EntryCfg n)) }
+{
+    sum_of(
+        &[
+            field(0, 1, Rule::ReadWrite, 0),
+            field(1, 1, Rule::ReadWrite, 0),
+            field(2, 1, Rule::ReadWrite, 0),
+            field(3, 2, Rule::ReadWrite, 0),
+            field(5, 3, Rule::ReadWrite, 0),
+            field(8, 3, Rule::ReadWrite, 0),
         ],
         term,
     )

@@ -1,6 +1,8 @@
 // Where the registers of a shape are.
 ghost use Rattle.std.specs.Prelude.{◌≡◌, ◌<◌, IsTrue, IfSome, OnSome};
 ghost use Rattle.event_words.specs.Registers.{register_at, scalar_at, srcmd_at, entry_at, named_at, has_register, index_count};
+ghost use Rattle.event_words.specs.Valid.{IsValidShape};
+ghost use Rattle.register_fields.specs.Places.{IsRegisterAt};
 
 use event_words::{Register, Shape};
 
@@ -12,8 +14,10 @@ fn scalar_at(index: u32) -> Option<Register>
         3 => Some(Register::Hwcfg1),
         4 => Some(Register::Hwcfg2),
         12 => Some(Register::Mdstall),
+        13 => Some(Register::Mdstallh),
         14 => Some(Register::Rridscp),
         16 => Some(Register::Mdlck),
+        17 => Some(Register::Mdlckh),
         18 => Some(Register::Mdcfglck),
         19 => Some(Register::Entrylck),
         24 => Some(Register::ErrCfg),
@@ -30,10 +34,14 @@ fn srcmd_at(shape: &Shape, row: u32, place: u32) -> Option<Register>
 {
     match (shape.srcmd == 2, place) {
         (true, 0) => Some(Register::SrcmdPerm(row)),
+        (true, 1) => Some(Register::SrcmdPermh(row)),
         (true, _) => None,
         (false, 0) => Some(Register::SrcmdEn(row)),
+        (false, 1) => Some(Register::SrcmdEnh(row)),
         (false, 2) => Some(Register::SrcmdR(row)),
+        (false, 3) => Some(Register::SrcmdRh(row)),
         (false, 4) => Some(Register::SrcmdW(row)),
+        (false, 5) => Some(Register::SrcmdWh(row)),
         (false, _) => None,
     }
 }
@@ -68,11 +76,16 @@ fn has_register(shape: &Shape, register: Register) -> bool
 {
     match register {
         Register::Mdcfg(domain) => shape.mdcfg == 0 && domain < shape.domains as u32,
-        Register::SrcmdEn(rrid) => shape.srcmd == 0 && rrid < shape.rrids as u32,
-        Register::SrcmdR(rrid) | Register::SrcmdW(rrid) => {
-            shape.srcmd == 0 && shape.sps && rrid < shape.rrids as u32
+        Register::SrcmdEn(rrid) | Register::SrcmdEnh(rrid) => {
+            shape.srcmd == 0 && rrid < shape.rrids as u32
         }
-        Register::SrcmdPerm(domain) => shape.srcmd == 2 && domain < shape.domains as u32,
+        Register::SrcmdR(rrid)
+        | Register::SrcmdRh(rrid)
+        | Register::SrcmdW(rrid)
+        | Register::SrcmdWh(rrid) => shape.srcmd == 0 && shape.sps && rrid < shape.rrids as u32,
+        Register::SrcmdPerm(domain) | Register::SrcmdPermh(domain) => {
+            shape.srcmd == 2 && domain < shape.domains as u32
+        }
         Register::EntryAddr(entry) | Register::EntryAddrh(entry) | Register::EntryCfg(entry) => {
             entry < shape.entries as u32
         }
@@ -86,6 +99,7 @@ pub fn register_at(shape: &Shape, index: u32) -> Option<Register>
     ensures value { result ≡ register_at shape.now index }
     ensures inside { OnSome result (index < index_count shape.now) }
     ensures there { IfSome result (λ register. IsTrue (has_register shape.now register)) }
+    ensures exact { IsValidShape shape.now → IsRegisterAt shape.now index result }
 {
     let register = named_at(shape, index)?;
     if has_register(shape, register) {

@@ -9,5 +9,5 @@ mod rights;
 
 pub use fields::{read_only, whole};
 pub use layout::register_at;
-pub use regs::{NoMemory, Regs, has_bit};
+pub use regs::{NoMemory, Regs, has_bit, joined};
 pub use rights::Rights;

@@ -1,8 +1,8 @@
 // The words of one unit's registers.
-ghost use Rattle.std.specs.Prelude.{◌≡◌, ◌==◌, ◌+◌, ◌*◌, ◌^◌, ◌<◌, IfOk, map, length};
+ghost use Rattle.std.specs.Prelude.{◌≡◌, ◌==◌, ℕ, ◌+◌, ◌*◌, ◌^◌, ◌<◌, IfOk, map, length};
 ghost use Rattle.std.specs.List.{range_with_len};
 ghost use Rattle.event_words.specs.Valid.{IsValidShape};
-ghost use Rattle.event_words.specs.Registers.{has_bit, bits_of, index_of, word_at, written, merged, at_reset, reset_word, index_count};
+ghost use Rattle.event_words.specs.Registers.{has_bit, has_pair_bit, bits_of, index_of, word_at, written, merged, at_reset, reset_word, index_count};
 ghost use Rattle.event_words.specs.Guards.{reg, whole};
 ghost use Rattle.event_words.specs.Denials.{with_error};
 ghost use Rattle.event_words.specs.WellFormed.{IsWellFormed, IsInside};
@@ -26,6 +26,15 @@ pub fn has_bit(word: u32, bit: u32) -> bool
     ensures { result ≡ has_bit word bit }
 {
     (word >> bit) % 2 == 1
+}
+
+/// Two registers read as one number of 64 bits: the low one has the bits up to 31, the high one those
+/// from 32 on.
+pub fn joined(low: u32, high: u32) -> u64
+    ensures value { result ≡ high * 2 ^ 32 + low }
+    ensures bits { (i : ℕ) → has_bit result i ≡ has_pair_bit low high i }
+{
+    (high as u64) << 32 | low as u64
 }
 
 /// The words at reset, by index.
@@ -113,6 +122,17 @@ impl Regs {
         ensures { result ≡ reg self.now register }
     {
         self.read(register.index())
+    }
+
+    /// A register of the SRCMD table and the one after it, which is its high register, read as one number
+    /// of 64 bits: domain m has bit m + 1 of SRCMD_EN, SRCMD_R and SRCMD_W, requester s the bits 2 s and
+    /// 2 s + 1 of SRCMD_PERM.
+    pub fn pair(&self, low: Register) -> u64
+        requires { index_of low + 1 < 2048 }
+        ensures { (i : ℕ) → has_bit result i ≡ has_pair_bit (reg self.now low) (word_at self.now (index_of low + 1)) i }
+    {
+        let index = low.index() as usize;
+        joined(self.words[index], self.words[index + 1])
     }
 
     /// The rights of an entry of the shape: the bits r, w and x of its ENTRY_CFG.

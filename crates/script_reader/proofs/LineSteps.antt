@@ -1,30 +1,57 @@
--- One line more of those that are left.
-use Rattle.std.proofs.Common.{◌≡◌, ℕ, ◌+◌, ◌<◌, List, Ok, Err, Result, length, map, get_or, drop, refl, ap, sym, ◌∙◌, subst, add-one, drop-cons}
-use Rattle.std.proofs.lemmas.List.{length-map, get_or-map}
-use denote.Ref.{Bor}
+-- The lines that are left, one line after another.
+use Rattle.std.proofs.Common.{◌≡◌, ℕ, ◌+◌, ◌≤◌, List, [], ◌∷◌, Ok, Err, Result, length, sum_by, ap, sym, ◌∙◌, subst, arith}
+use Rattle.std.proofs.lemmas.List.Sums.{sum_by-cons}
 use Rattle.script_reader.specs.declared.step.StepError.{StepError}
 use Rattle.script_reader.specs.declared.step.StepError.TheVariants.{Code, NoMemory}
+use Rattle.script_reader.specs.declared.update_text.Wanted.{Wanted}
+use Rattle.script_reader.specs.Text.{lines_of}
 use Rattle.script_reader.specs.Lines.{State, line_step}
 use Rattle.script_reader.specs.Scripts.{Bad, lines_from, at_line}
+use Rattle.script_reader.specs.LiveLanes.{lanes_line_step, lanes_from}
+use Rattle.script_reader.specs.UpdateTexts.{UpdateState, update_step, update_from}
 use Rattle.script_reader.specs.Answers.{refusal_of, Reads}
 use Rattle.script_reader.specs.Steps.{Fails}
+use Rattle.script_reader.proofs.UpdateSizes.{line_size, lines_size}
 
-abbrev pub texts : List (Bor (List ℕ)) → List (List ℕ)
-texts = map (λ x. x.now)
-
-pub lines_more : (s : State) (n : ℕ) (ls : List (Bor (List ℕ))) (i : ℕ) (d : Bor (List ℕ)) → i < length ls
-    → lines_from s n (drop i (texts ls)) ≡ at_line n (line_step s (get_or ls i d).now) (λ t. lines_from t (n + 1) (drop (i + 1) (texts ls)))
-lines_more s n ls i d h =
-    let within : i < length (texts ls) = subst (λ k. i < k) (sym (length-map ls (λ (x : Bor (List ℕ)). x.now))) h in
-    rw (add-one i, drop-cons (texts ls) i d.now within, get_or-map (λ (x : Bor (List ℕ)). x.now) ls i d d.now h) refl
-
-pub lines_ok : (s t : State) (n : ℕ) (ls : List (Bor (List ℕ))) (i : ℕ) (d : Bor (List ℕ)) → i < length ls → line_step s (get_or ls i d).now ≡ Ok t
-    → lines_from s n (drop i (texts ls)) ≡ lines_from t (n + 1) (drop (i + 1) (texts ls))
-lines_ok s t n ls i d h e = lines_more s n ls i d h ∙ ap (λ r. at_line n r (λ t. lines_from t (n + 1) (drop (i + 1) (texts ls)))) e
-
-pub refuses_at : {A B : Type 0} (n : ℕ) (e : StepError) (read : Result A ℕ) (next : A → Result B Bad) → Fails e read → Reads (Err (refusal_of n e)) (at_line n read next)
+refuses_at : {A B : Type 0} (n : ℕ) (e : StepError) (read : Result A ℕ) (next : A → Result B Bad) → Fails e read → Reads (Err (refusal_of n e)) (at_line n read next)
 refuses_at n (Code c) read next h = ap (λ r. at_line n r next) h
 refuses_at n NoMemory read next h = tt
 
-pub lines_err : (s : State) (n : ℕ) (ls : List (Bor (List ℕ))) (i : ℕ) (d : Bor (List ℕ)) (e : StepError) → i < length ls → Fails e (line_step s (get_or ls i d).now) → Reads (Err (refusal_of n e)) (lines_from s n (drop i (texts ls)))
-lines_err s n ls i d e h f = subst (Reads (Err (refusal_of n e))) (sym (lines_more s n ls i d h)) (refuses_at n e _ _ f)
+-- ---- scripts
+
+pub lines_ok : (s t : State) (n : ℕ) (line : List ℕ) (before after : List (List ℕ)) → before ≡ line ∷ after → line_step s line ≡ Ok t → lines_from s n before ≡ lines_from t (n + 1) after
+lines_ok s t n line before after first e = ap (lines_from s n) first ∙ ap (λ r. at_line n r (λ u. lines_from u (n + 1) after)) e
+
+pub lines_err : (s : State) (n : ℕ) (line : List ℕ) (before after : List (List ℕ)) (e : StepError) → before ≡ line ∷ after → Fails e (line_step s line) → Reads (Err (refusal_of n e)) (lines_from s n before)
+lines_err s n line before after e first f = subst (Reads (Err (refusal_of n e))) (ap (lines_from s n) (sym first)) (refuses_at n e _ _ f)
+
+-- ---- lanes
+
+pub lanes_ok : (s t : State) (n : ℕ) (line : List ℕ) (before after : List (List ℕ)) → before ≡ line ∷ after → lanes_line_step s line ≡ Ok t → lanes_from s n before ≡ lanes_from t (n + 1) after
+lanes_ok s t n line before after first e = ap (lanes_from s n) first ∙ ap (λ r. at_line n r (λ u. lanes_from u (n + 1) after)) e
+
+pub lanes_err : (s : State) (n : ℕ) (line : List ℕ) (before after : List (List ℕ)) (e : StepError) → before ≡ line ∷ after → Fails e (lanes_line_step s line) → Reads (Err (refusal_of n e)) (lanes_from s n before)
+lanes_err s n line before after e first f = subst (Reads (Err (refusal_of n e))) (ap (lanes_from s n) (sym first)) (refuses_at n e _ _ f)
+
+-- ---- the input of an update
+
+pub update_ok : (wanted : Wanted) (s t : UpdateState) (n : ℕ) (line : List ℕ) (before after : List (List ℕ)) → before ≡ line ∷ after → update_step wanted s n line ≡ Ok t
+    → update_from wanted s n before ≡ update_from wanted t (n + 1) after
+update_ok wanted s t n line before after first e = ap (update_from wanted s n) first ∙ ap (λ r. at_line n r (λ u. update_from wanted u (n + 1) after)) e
+
+pub update_err : (wanted : Wanted) (s : UpdateState) (n : ℕ) (line : List ℕ) (before after : List (List ℕ)) (e : StepError) → before ≡ line ∷ after → Fails e (update_step wanted s n line)
+    → Reads (Err (refusal_of n e)) (update_from wanted s n before)
+update_err wanted s n line before after e first f = subst (Reads (Err (refusal_of n e))) (ap (update_from wanted s n) (sym first)) (refuses_at n e _ _ f)
+
+-- ---- how many lines there are
+
+-- a line fewer is left
+pub fewer : (line : List ℕ) (before after : List (List ℕ)) → before ≡ line ∷ after → length before ≡ length after + 1
+fewer line before after first = ap length first ∙ omega arith
+
+sizes_long : (lines : List (List ℕ)) → length lines ≤ sum_by line_size lines
+sizes_long [] = omega arith
+sizes_long (line ∷ lines) = omega (arith, sizes_long lines, sum_by-cons line_size line lines)
+
+pub few_lines : (text : List ℕ) → length (lines_of text) ≤ length text + 1
+few_lines text = omega (arith, sizes_long (lines_of text), lines_size text)

@@ -1,13 +1,13 @@
--- Numerals whose value stands still at the greatest number of 128 bits.
-use Rattle.std.proofs.Common.{◌≡◌, ℕ, ◌+◌, ◌-◌, ◌*◌, ◌^◌, ◌<◌, ◌≤◌, min, List, [], ◌∷◌, None, Some, Option, Ok, Err, length, get_or, drop, refl, ap, sym, ◌∙◌, inl, inr, arith, add-one, drop-cons}
+-- Numerals whose value stands still above the greatest number of 64 bits.
+use Rattle.std.proofs.Common.{◌≡◌, ℕ, ◌+◌, ◌*◌, ◌^◌, ◌<◌, ◌≤◌, min, List, [], ◌∷◌, None, Some, Option, Result, length, get_or, drop, refl, ap, sym, ◌∙◌, inl, inr, arith, add-one, drop-cons}
 use Rattle.std.proofs.Math.ListN.{drop_of_length-le}
 use Rattle.std.proofs.lemmas.Bool.{cases_lt}
 use Rattle.std.proofs.lemmas.Bool.Decides.{nat_tests}
 use Rattle.std.specs.Option.{option_map, option_and_then}
-use Rattle.script_reader.specs.Numbers.{digit_of, numeral_after, numeral_of, number_of, number_at, fitting}
+use Rattle.script_reader.specs.Numbers.{held, digit_of, numeral_after, numeral_of, number_of, number_at, fitting}
 
 abbrev pub capped : ℕ → ℕ
-capped n = min n (2 ^ 128 - 1)
+capped n = min n (2 ^ 64)
 
 times_le : (n base : ℕ) → 1 ≤ base → n ≤ n * base
 times_le n base pos = grind arith
@@ -15,7 +15,7 @@ times_le n base pos = grind arith
 -- numbers that are capped alike stay so with one digit more
 capped_more : (base n m d : ℕ) → 1 ≤ base → capped n ≡ capped m → capped (n * base + d) ≡ capped (m * base + d)
 capped_more base n m d pos e =
-    elim (cases_lt n (2 ^ 128 - 1)) [
+    elim (cases_lt n (2 ^ 64)) [
       | inl lt ↦ ap (λ x. capped (x * base + d)) (omega arith)
       | inr ge ↦ omega (arith, times_le n base pos, times_le m base pos)
     ]
@@ -42,7 +42,7 @@ capped_step base n m bs i d h pos e c =
 pub capped_stop : (base n : ℕ) (bs : List ℕ) (i : ℕ) → i < length bs → digit_of base (get_or bs i 0) ≡ None → option_map capped (numeral_after base n (drop i bs)) ≡ None
 capped_stop base n bs i h e = ap (option_map capped) (numeral_step base n bs i h ∙ ap (option_and_then (λ d. numeral_after base (n * base + d) (drop (i + 1) bs))) e)
 
-pub capped_end : (base n : ℕ) (bs : List ℕ) (i : ℕ) → length bs ≤ i → n < 2 ^ 128 → option_map capped (numeral_after base n (drop i bs)) ≡ Some n
+pub capped_end : (base n : ℕ) (bs : List ℕ) (i : ℕ) → length bs ≤ i → n ≤ 2 ^ 64 → option_map capped (numeral_after base n (drop i bs)) ≡ Some n
 capped_end base n bs i h small = ap (λ l. option_map capped (numeral_after base n l)) (drop_of_length-le bs h) ∙ ap Some (omega arith)
 
 pub numeral_of_is : (base most : ℕ) (ds : List ℕ) → 1 ≤ length ds → length ds ≤ most → numeral_of base most ds ≡ numeral_after base 0 ds
@@ -58,14 +58,6 @@ fitting-capped (Some n) =
       | inr above ↦ grind (arith, nat_tests)
     ]
 
-pub none_is : (word : List ℕ) (o : Option ℕ) → o ≡ option_map capped (number_of word) → o ≡ None → Err 5 ≡ number_at word
+pub number_is : (word : List ℕ) (o : Option (Option ℕ)) (r : Result ℕ ℕ) → option_map held o ≡ option_map capped (number_of word) → fitting (option_map held o) ≡ r → r ≡ number_at word
 unfolding number_at
-none_is word o e n = ap fitting (sym n ∙ e) ∙ fitting-capped (number_of word)
-
-pub some_is : (word : List ℕ) (o : Option ℕ) (n : ℕ) → o ≡ option_map capped (number_of word) → o ≡ Some n → n < 2 ^ 64 → Ok n ≡ number_at word
-unfolding number_at
-some_is word o n e s small = grind (arith, nat_tests) ∙ ap fitting (sym s ∙ e) ∙ fitting-capped (number_of word)
-
-pub far_is : (word : List ℕ) (o : Option ℕ) (n : ℕ) → o ≡ option_map capped (number_of word) → o ≡ Some n → 2 ^ 64 ≤ n → Err 6 ≡ number_at word
-unfolding number_at
-far_is word o n e s far = grind (arith, nat_tests) ∙ ap fitting (sym s ∙ e) ∙ fitting-capped (number_of word)
+number_is word o r e f = sym f ∙ ap fitting e ∙ fitting-capped (number_of word)

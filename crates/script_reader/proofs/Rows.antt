@@ -62,7 +62,7 @@ bad_submissions :
     ∷ (codes "t 0 3 r 0x0 1 at a" ∷ [])
     ∷ (codes "t 0 3 r 0x0 1 as A" ∷ [])
     ∷ (codes "t 0 3 r 0x0 1 as a" ∷ codes "t 0 3 r 0x0 1 as a" ∷ [])
-    ∷ (codes "t 0 3 r 0xffffffffff 2 as a" ∷ [])
+    ∷ (codes "t 0 3 r 0xfffffffffffff 2 as a" ∷ [])
     ∷ [])
     ≡ Some (4, 6) ∷ Some (4, 7) ∷ Some (4, 6) ∷ Some (4, 4) ∷ Some (4, 8) ∷ Some (5, 9) ∷ Some (4, 6) ∷ []
 unfolding digit_of number_of number_at ranged has_keys translation_at shape_at unit_line is_name slot_at with_name unit_at index_at kind_at access_at stage_at stages_at write_at read_at submit_at judge_at settle_at until_at through_at command_at head_step unit_step boot_step end_step lane_step submit_step command_step units_step section_step words_step line_step

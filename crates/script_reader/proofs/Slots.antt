@@ -1,9 +1,7 @@
 -- The slots of names with one name more.
-use Rattle.std.proofs.Common.{◌≡◌, ℕ, ◌+◌, ◌<◌, ◌≤◌, Bool, true, false, List, [], ◌∷◌, ◌++◌, None, Some, Option, length, map, cond, nat_lt, position, is_some, IfSome, refl, ap, sym, ◌∙◌, inl, inr, arith, length-append}
+use Rattle.std.proofs.Common.{◌≡◌, ℕ, ◌+◌, ◌<◌, ◌≤◌, Bool, true, false, List, [], ◌∷◌, ◌++◌, None, Some, Option, length, cond, nat_lt, position, is_some, IfSome, refl, ap, sym, ◌∙◌, inl, inr, arith, length-append}
 use lib.Dec.{eqb}
-use denote.Ref.{Bor}
 use Rattle.std.proofs.lemmas.Bool.{cases_Bool}
-use Rattle.std.proofs.lemmas.List.{length-map, map-append}
 use Rattle.std.proofs.lemmas.Bool.Decides.{nat_tests}
 use Rattle.std.proofs.lemmas.List.Folds.{position_or_len_push}
 use Rattle.std.proofs.lemmas.List.Sums.{prefix_len-le-length}
@@ -25,10 +23,10 @@ first_miss a b n m e bound last = grind (arith, nat_tests)
 pushed : {A : Type 0} (p : A → Bool) (xs : List A) (y : A) (h : Bool) → p y ≡ h → position_or_len p (xs ++ y ∷ []) ≡ cond (eqb (position_or_len p xs) (length xs)) (length xs + cond h 0 1) (position_or_len p xs)
 pushed p xs y h e = position_or_len_push p xs y ∙ ap (λ v. cond (eqb (position_or_len p xs) (length xs)) (length xs + cond v 0 1) (position_or_len p xs)) e
 
-push_hit : {A : Type 0} (p : A → Bool) (xs : List A) (y : A) → position p xs ≡ None → p y ≡ true → position p (xs ++ y ∷ []) ≡ Some (length xs)
+pub push_hit : {A : Type 0} (p : A → Bool) (xs : List A) (y : A) → position p xs ≡ None → p y ≡ true → position p (xs ++ y ∷ []) ≡ Some (length xs)
 push_hit p xs y none hit = first_hit (position_or_len p xs) (position_or_len p (xs ++ y ∷ [])) (length xs) (length (xs ++ y ∷ [])) (omega (arith, length-append xs (y ∷ []))) (prefix_len-le-length _ xs) (pushed p xs y true hit) none
 
-push_miss : {A : Type 0} (p : A → Bool) (xs : List A) (y : A) → p y ≡ false → position p (xs ++ y ∷ []) ≡ position p xs
+pub push_miss : {A : Type 0} (p : A → Bool) (xs : List A) (y : A) → p y ≡ false → position p (xs ++ y ∷ []) ≡ position p xs
 push_miss p xs y miss = first_miss (position_or_len p xs) (position_or_len p (xs ++ y ∷ [])) (length xs) (length (xs ++ y ∷ [])) (omega (arith, length-append xs (y ∷ []))) (prefix_len-le-length _ xs) (pushed p xs y false miss)
 
 other : (w q : List ℕ) → bytes_eq w q ≡ false → bytes_eq q w ≡ false
@@ -38,26 +36,16 @@ other w q f =
       | inr m ↦ m
     ]
 
-is_none : (o : Option ℕ) → is_some o ≡ false → o ≡ None
+pub is_none : (o : Option ℕ) → is_some o ≡ false → o ≡ None
 is_none None e = refl
 is_none (Some n) e = cc
 
-slot_more : (names : List (List ℕ)) (w q : List ℕ) → slot_of names w ≡ None → cond (bytes_eq w q) (Some (length names)) (slot_of names q) ≡ slot_of (names ++ w ∷ []) q
+pub slot_more : (names : List (List ℕ)) (w q : List ℕ) → slot_of names w ≡ None → cond (bytes_eq w q) (Some (length names)) (slot_of names q) ≡ slot_of (names ++ w ∷ []) q
 slot_more names w q none =
     elim (cases_Bool (bytes_eq w q)) [
       | inl t ↦ ap (λ b. cond b (Some (length names)) (slot_of names q)) t ∙ sym (push_hit (bytes_eq w) names w none ((bytes_eq-Decides w w).1 refl)) ∙ ap (slot_of (names ++ w ∷ [])) ((bytes_eq-Decides w q).0 t)
       | inr f ↦ ap (λ b. cond b (Some (length names)) (slot_of names q)) f ∙ sym (push_miss (bytes_eq q) names w (other w q f))
     ]
-
--- the slots of names that are written in a text
-pub slots_more : (words more : List (Bor (List ℕ))) (w : Bor (List ℕ)) (q : List ℕ) (slot : ℕ) → slot ≡ length words → is_some (slot_of (map (λ x. x.now) words) w.now) ≡ false → more ≡ words ++ w ∷ []
-    → cond (bytes_eq w.now q) (Some slot) (slot_of (map (λ x. x.now) words) q) ≡ slot_of (map (λ x. x.now) more) q
-slots_more words more w q slot count absent e =
-    let names : List (List ℕ) = map (λ (x : Bor (List ℕ)). x.now) words in
-    ap (λ n. cond (bytes_eq w.now q) (Some n) (slot_of names q)) (count ∙ sym (length-map words (λ (x : Bor (List ℕ)). x.now)))
-    ∙ slot_more names w.now q (is_none (slot_of names w.now) absent)
-    ∙ ap (λ l. slot_of l q) (sym (map-append (λ (x : Bor (List ℕ)). x.now) words (w ∷ [])))
-    ∙ ap (λ l. slot_of (map (λ (x : Bor (List ℕ)). x.now) l) q) (sym e)
 
 -- a slot is below the number of names
 slot_below : (names : List (List ℕ)) (w : List ℕ) (slot : ℕ) → slot_of names w ≡ Some slot → slot < length names

@@ -1,5 +1,5 @@
 -- Each kind of line keeps what holds of the state.
-use Rattle.std.proofs.Common.{◌≡◌, ℕ, ◌+◌, ◌<◌, ◌≤◌, Bool, true, false, List, [], ◌∷◌, ◌++◌, Ok, Result, length, count_by, cond, if◌then◌else◌, refl, ap, sym, subst, ◌∙◌, arith, length-append}
+use Rattle.std.proofs.Common.{◌≡◌, ℕ, ◌+◌, ◌<◌, ◌≤◌, Bool, true, false, List, [], ◌∷◌, ◌++◌, Ok, Err, Result, OnOk, length, is_some, count_by, cond, if◌then◌else◌, refl, ap, sym, subst, ◌∙◌, arith, length-append}
 use Rattle.std.proofs.lemmas.List.Sums.{count_by-le-length, sum_by-cons, sum_by_push}
 use Rattle.std.specs.List.{AllByRecursion}
 use Rattle.event_words.specs.declared.shape.Shape.{Shape}
@@ -7,8 +7,13 @@ use Rattle.event_words.specs.declared.section.Command.{Command}
 use Rattle.event_words.specs.Valid.{IsValidShape}
 use Rattle.event_words.specs.Sections.{SectionOf, IsValidSection, AreValidCommands, IsValidCommand, NamesUnits, NamesOnlyUnits, is_submit}
 use Rattle.script_reader.specs.declared.reader.Place.{Place}
+use Rattle.script_reader.specs.declared.step.StepError.{StepError}
+use Rattle.script_reader.specs.Codes.{◌>>=◌, taken_name, not_a_name}
+use Rattle.script_reader.specs.Names.{is_name, slot_of, with_name}
+use Rattle.script_reader.specs.Steps.{Moves}
 use Rattle.script_reader.specs.declared.reader.Place.TheVariants.{Head, Units, Boot, Lane, Finished}
-use Rattle.script_reader.specs.Lines.{State, OpenSection, new_section, no_commands, section_of, with_command, start, next_lane}
+use Rattle.script_reader.specs.Lines.{State, OpenSection, new_section, no_commands, section_of, with_command, with_submission, closed, start, next_lane}
+use Rattle.script_reader.specs.Told.{IsToldWhole, TellsWhole}
 use Rattle.script_reader.specs.Sound.{IsSound, IsSoundSection, FitsPlace, IsInSection, MayFollow, IsGoodCommand}
 
 pub all_push : {A : Type 0} (P : A → Type 0) (xs : List A) (x : A) → AllByRecursion P xs → P x → AllByRecursion P (xs ++ x ∷ [])
@@ -17,11 +22,11 @@ all_push P (y ∷ ys) x all here = (all.0, all_push P ys x all.1 here)
 
 -- ---- commands
 
-counted : (b : Bool) (n : ℕ) → (if b then n + 1 else n) ≡ n + cond b 1 0
+pub counted : (b : Bool) (n : ℕ) → (if b then n + 1 else n) ≡ n + cond b 1 0
 counted true n = refl
 counted false n = omega arith
 
-count_cons : (c : Command) (cs : List Command) → count_by is_submit (c ∷ cs) ≡ cond (is_submit c) 1 0 + count_by is_submit cs
+pub count_cons : (c : Command) (cs : List Command) → count_by is_submit (c ∷ cs) ≡ cond (is_submit c) 1 0 + count_by is_submit cs
 count_cons c cs = sum_by-cons (λ x. cond (is_submit x) 1 0) c cs
 
 count_push : (cs : List Command) (c : Command) → count_by is_submit (cs ++ c ∷ []) ≡ count_by is_submit cs + cond (is_submit c) 1 0
@@ -38,6 +43,7 @@ section_push units old new c sound good commands names = record {
   names = names ∙ counted (is_submit c) (length old.names) ∙ ap (λ n. n + cond (is_submit c) 1 0) sound.names ∙ sym (count_push old.commands c) ∙ ap (count_by is_submit) (sym commands);
   commands = subst (AreValidCommands 0) (sym commands) (commands_push 0 (length old.names) old.commands c sound.commands (omega (arith, sound.names)) good.valid);
   units_there = subst (AllByRecursion (NamesUnits units)) (sym commands) (all_push (NamesUnits units) old.commands c sound.units_there good.units_there);
+  whole = subst (AllByRecursion IsToldWhole) (sym commands) (all_push IsToldWhole old.commands c sound.whole good.whole);
 }
 
 -- a command that makes no slot
@@ -63,9 +69,11 @@ sound_start s e = subst IsSound (sym e) (record {
   shapes = tt;
   boot = record { few = omega arith; slots = refl; commands = tt };
   boot_units = tt;
+  boot_whole = tt;
   lanes = tt;
   lanes_units = tt;
-  section = record { names = refl; commands = tt; units_there = tt };
+  lanes_whole = tt;
+  section = record { names = refl; commands = tt; units_there = tt; whole = tt };
   place = record { boot = refl; lanes = refl; section = refl };
 })
 
@@ -77,8 +85,10 @@ sound_head s e sound =
       shapes = sound.shapes;
       boot = sound.boot;
       boot_units = sound.boot_units;
+      boot_whole = sound.boot_whole;
       lanes = sound.lanes;
       lanes_units = sound.lanes_units;
+      lanes_whole = sound.lanes_whole;
       section = sound.section;
       place = record { boot = here.boot; lanes = here.lanes; section = here.section };
     }
@@ -91,7 +101,7 @@ blank_lanes : (units : ℕ) (lanes : List SectionOf) → lanes ≡ [] → AllByR
 blank_lanes units lanes e = subst (AllByRecursion (NamesOnlyUnits units)) (sym e) tt
 
 blank_section : (units : ℕ) (open_section : OpenSection) → open_section ≡ new_section → IsSoundSection units open_section
-blank_section units open_section e = subst (IsSoundSection units) (sym e) (record { names = refl; commands = tt; units_there = tt })
+blank_section units open_section e = subst (IsSoundSection units) (sym e) (record { names = refl; commands = tt; units_there = tt; whole = tt })
 
 pub sound_unit : (s : State) (shape : Shape) → s.place ≡ Units → length s.shapes < 4 → IsValidShape shape → IsSound s → IsSound (record s { shapes = s.shapes ++ shape ∷ [] })
 sound_unit s shape e few valid sound =
@@ -101,8 +111,10 @@ sound_unit s shape e few valid sound =
       shapes = all_push IsValidShape s.shapes shape sound.shapes valid;
       boot = sound.boot;
       boot_units = blank_boot _ s.boot here.boot;
+      boot_whole = sound.boot_whole;
       lanes = sound.lanes;
       lanes_units = blank_lanes _ s.lanes here.lanes;
+      lanes_whole = sound.lanes_whole;
       section = blank_section _ s.section here.section;
       place = subst (λ p. FitsPlace p (record s { shapes = s.shapes ++ shape ∷ [] })) (sym e) (record { boot = here.boot; lanes = here.lanes; section = here.section });
     }
@@ -115,8 +127,10 @@ sound_boot s e some sound =
       shapes = sound.shapes;
       boot = sound.boot;
       boot_units = sound.boot_units;
+      boot_whole = sound.boot_whole;
       lanes = sound.lanes;
       lanes_units = sound.lanes_units;
+      lanes_whole = sound.lanes_whole;
       section = sound.section;
       place = record { some_units = some; few_lanes = omega (arith, ap length here.lanes) };
     }
@@ -134,8 +148,10 @@ sound_section s new i section sound = record {
   shapes = sound.shapes;
   boot = sound.boot;
   boot_units = sound.boot_units;
+  boot_whole = sound.boot_whole;
   lanes = sound.lanes;
   lanes_units = sound.lanes_units;
+  lanes_whole = sound.lanes_whole;
   section = section;
   place = fits_section s.place s new i sound.place;
 }
@@ -145,7 +161,7 @@ pub whole_section : (units : ℕ) (open_section : OpenSection) → IsSoundSectio
 whole_section units open_section sound few = record { few = few; slots = sound.names; commands = sound.commands }
 
 new_is_sound : (units : ℕ) → IsSoundSection units new_section
-new_is_sound units = record { names = refl; commands = tt; units_there = tt }
+new_is_sound units = record { names = refl; commands = tt; units_there = tt; whole = tt }
 
 fits_next : (next : Place) (s t : State) → MayFollow next s → 1 ≤ length t.shapes → length t.lanes + 1 ≤ next_lane s.place s.lanes → next_lane s.place s.lanes ≤ 17 → FitsPlace next t
 fits_next Head s t follows some more few = absurd follows
@@ -164,8 +180,10 @@ close_boot s next e few follows sound =
       shapes = sound.shapes;
       boot = whole_section _ s.section sound.section few;
       boot_units = sound.section.units_there;
+      boot_whole = sound.section.whole;
       lanes = sound.lanes;
       lanes_units = sound.lanes_units;
+      lanes_whole = sound.lanes_whole;
       section = new_is_sound _;
       place = fits_next next s (record s { boot = section_of s.section; section = new_section; place = next }) follows here.some_units (omega (arith, here.few_lanes)) (omega arith);
     }
@@ -182,11 +200,53 @@ close_lane s next e few follows sound =
       shapes = sound.shapes;
       boot = sound.boot;
       boot_units = sound.boot_units;
+      boot_whole = sound.boot_whole;
       lanes = all_push IsValidSection s.lanes (section_of s.section) sound.lanes (whole_section _ s.section sound.section few);
       lanes_units = all_push (NamesOnlyUnits (length s.shapes)) s.lanes (section_of s.section) sound.lanes_units sound.section.units_there;
+      lanes_whole = all_push TellsWhole s.lanes (section_of s.section) sound.lanes_whole sound.section.whole;
       section = new_is_sound _;
       place = fits_next next s (record s { lanes = s.lanes ++ section_of s.section ∷ []; section = new_section; place = next }) follows here.some_units (omega arith) (omega (arith, here.few_lanes));
     }
+
+-- the open section is whole, and another stands in its place
+pub sound_closed : (p : Place) (s t : State) (next : Place) → s.place ≡ p → IsInSection p → length s.section.commands ≤ 4194304 → MayFollow next s → IsSound s
+    → (let step : Result State ℕ = Ok (record (closed p s) { place = next }) in step ≡ Ok t) → IsSound t
+sound_closed Lane s t next e i few follows sound step = subst IsSound (let same : record (closed Lane s) { place = next } ≡ t = cc in same) (close_lane s next e few follows sound)
+sound_closed Boot s t next e i few follows sound step = subst IsSound (let same : record (closed Boot s) { place = next } ≡ t = cc in same) (close_boot s next e few follows sound)
+sound_closed Head s t next e i few follows sound step = absurd i
+sound_closed Units s t next e i few follows sound step = absurd i
+sound_closed Finished s t next e i few follows sound step = absurd i
+
+-- a command was added, if memory didn't run out
+pub sound_pushed : {A : Type 0} (r : Result A StepError) (s : State) (n slot : ℕ) (new : OpenSection) (c : Command) → IsInSection s.place → IsSound s → IsGoodCommand n slot c → n ≡ length s.shapes
+    → slot ≡ length s.section.names → is_submit c ≡ false → Moves r new (Ok (with_command s.section c)) → OnOk r (IsSound (record s { section = new }))
+sound_pushed (Ok x) s n slot new c i sound good count slots other step =
+    sound_section s new i (section_pushed (length s.shapes) n slot s.section new c sound.section good count slots other step) sound
+sound_pushed (Err e) s n slot new c i sound good count slots other step = tt
+
+one_more : (names more : List (List ℕ)) (w : List ℕ) → with_name names w ≡ Ok more → length more ≡ length names + 1
+unfolding with_name
+one_more names more w = by (is_name w) (is_some (slot_of names w))
+  where
+    by : (a b : Bool) → (let read : Result (List (List ℕ)) ℕ = if a then (if b then Err taken_name else Ok (names ++ w ∷ [])) else Err not_a_name in read ≡ Ok more) → length more ≡ length names + 1
+    by true false e = let same : names ++ w ∷ [] ≡ more = cc in omega (arith, length-append names (w ∷ []), ap length same)
+    by true true e = absurd (let n : ⊥ = cc in n)
+    by false b e = absurd (let n : ⊥ = cc in n)
+
+submitted : (names : Result (List (List ℕ)) ℕ) (commands : List Command) (slots : ℕ) (new : OpenSection) → ((more : List (List ℕ)) → names ≡ Ok more → length more ≡ slots + 1)
+    → (let step : Result OpenSection ℕ = names >>= λ more. Ok (record { commands = commands; names = more }) in step ≡ Ok new) → (new.commands ≡ commands) × (length new.names ≡ slots + 1)
+submitted (Ok more) commands slots new grows e =
+    let old : OpenSection = record { commands = commands; names = more } in
+    let same : old ≡ new = cc in (ap (λ o. o.commands) (sym same), ap (λ o. length o.names) (sym same) ∙ grows more refl)
+submitted (Err code) commands slots new grows e = absurd (let n : ⊥ = cc in n)
+
+-- a submission was added, if memory didn't run out
+pub sound_submitted : {A : Type 0} (r : Result A StepError) (s : State) (n slot : ℕ) (new : OpenSection) (c : Command) (name : List ℕ) → IsInSection s.place → IsSound s → IsGoodCommand n slot c
+    → n ≡ length s.shapes → slot ≡ length s.section.names → is_submit c ≡ true → Moves r new (with_submission s.section c name) → OnOk r (IsSound (record s { section = new }))
+sound_submitted (Ok x) s n slot new c name i sound good count slots submits step =
+    let parts = submitted (with_name s.section.names name) (s.section.commands ++ c ∷ []) (length s.section.names) new (λ more e. one_more s.section.names more name e) step in
+    sound_section s new i (section_submitted (length s.shapes) n slot s.section new c sound.section good count slots submits parts.0 parts.1) sound
+sound_submitted (Err e) s n slot new c name i sound good count slots submits step = tt
 
 -- ---- what callers learn
 

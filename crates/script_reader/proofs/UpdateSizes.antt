@@ -1,9 +1,8 @@
 -- How long the parts of an update's input are, and in which lines they stand.
-use Rattle.std.proofs.Common.{◌≡◌, ℕ, ◌+◌, ◌≤◌, ◌==◌, ◌&&◌, not, Bool, true, false, List, [], ◌∷◌, ◌++◌, Ok, Err, Result, length, codes, if◌then◌else◌, refl, sym, ap, subst, ◌∙◌, ◌-◌, ◌<◌, get_or, nat_le, slice_index, take, arith, length-append, sum_by}
+use Rattle.std.proofs.Common.{◌≡◌, ℕ, ◌+◌, ◌≤◌, ◌==◌, ◌&&◌, not, Bool, true, false, List, [], ◌∷◌, ◌++◌, Ok, Err, Result, length, codes, if◌then◌else◌, refl, sym, ap, subst, ◌∙◌, ◌-◌, nat_le, slice_index, take, arith, length-append, sum_by}
 use Rattle.std.proofs.lemmas.Bool.{leb-true}
-use Rattle.std.proofs.lemmas.List.Sums.{sum_by-cons, sum_by_more}
-use Rattle.std.proofs.lemmas.List.{length-take-le, length-map, get_or-map}
-use denote.Ref.{Bor}
+use Rattle.std.proofs.lemmas.List.Sums.{sum_by-cons}
+use Rattle.std.proofs.lemmas.List.{length-take-le}
 use Rattle.std.proofs.lemmas.List.Splits.{slice_split-cons_yes, slice_split-cons_no, length-slice_split}
 use Rattle.std.specs.Result.{IfOk}
 use Rattle.std.specs.List.{list_all, slice_split, onto_first}
@@ -14,9 +13,8 @@ use Rattle.script_reader.specs.Text.{is_line_feed, is_plain, lines_of, words_of,
 use Rattle.script_reader.specs.Numbers.{ranged, number_at}
 use Rattle.script_reader.specs.Words.{word_at}
 use Rattle.script_reader.specs.Lines.{is_skipped}
-use Rattle.script_reader.proofs.LineSteps.{texts}
 use Rattle.script_reader.specs.UpdateSizes.{HasNoLanes, Fits, FitsState}
-use Rattle.script_reader.specs.UpdateTexts.{UpdateTextOf, UpdateState, is_heading, is_polls_heading, with_line, old_step, new_step, polls_step, lanes_step, nothing_step, rest_step, wanted_step, update_step, after_polls, update_start, update_from, update_text_at}
+use Rattle.script_reader.specs.UpdateTexts.{UpdateTextOf, UpdateState, is_heading, is_polls_heading, with_line, old_step, new_step, polls_step, lanes_step, nothing_step, rest_step, wanted_step, update_step, after_polls, update_start}
 
 -- with one line more
 abbrev Onward : ℕ → ℕ → List ℕ → UpdateState → Type 0
@@ -151,25 +149,21 @@ lines_size text = by (length text == 0)
 
 -- ---- one line more of those that are left
 
-pub onward : (lanes : Bool) (after : Wanted) (s t : UpdateState) (n : ℕ) (ls : List (Bor (List ℕ))) (i : ℕ) (d : Bor (List ℕ)) → after ≡ after_polls lanes → i < length ls
-    → FitsState s (sum_by line_size (take i (texts ls))) n → update_step after s n (get_or ls i d).now ≡ Ok t
-    → FitsState t (sum_by line_size (take (i + 1) (texts ls))) (n + 1)
-onward lanes after s t n ls i d a h fits e =
-    let within : i < length (texts ls) = subst (λ k. i < k) (sym (length-map ls (λ (x : Bor (List ℕ)). x.now))) h in
-    let line = (get_or ls i d).now in
-    let next : FitsState t (sum_by line_size (take i (texts ls)) + line_size line) (n + 1) = subst (λ r. IfOk r (Onward (sum_by line_size (take i (texts ls))) n line)) (ap (λ w. update_step w s n line) (sym a) ∙ e) (step_fits lanes s (sum_by line_size (take i (texts ls))) n line fits) in
-    let same : sum_by line_size (take (i + 1) (texts ls)) ≡ sum_by line_size (take i (texts ls)) + line_size line =
-    sum_by_more line_size (texts ls) i d.now within ∙ ap (λ x. sum_by line_size (take i (texts ls)) + line_size x) (get_or-map (λ (x : Bor (List ℕ)). x.now) ls i d d.now h) in
-    subst (λ size. FitsState t size (n + 1)) (sym same) next
+-- so many bytes of the lines of a text were read
+abbrev pub Fitted : ℕ → List (List ℕ) → UpdateState → ℕ → Type 0
+Fitted size left s n = (sum_by line_size left ≤ size) × FitsState s (size - sum_by line_size left) n
+
+pub onward : (lanes : Bool) (after : Wanted) (s t : UpdateState) (size n : ℕ) (line : List ℕ) (before left : List (List ℕ)) → after ≡ after_polls lanes → before ≡ line ∷ left → Fitted size before s n
+    → update_step after s n line ≡ Ok t → Fitted size left t (n + 1)
+onward lanes after s t size n line before left a first fits e =
+    let sum : sum_by line_size before ≡ line_size line + sum_by line_size left = ap (sum_by line_size) first ∙ sum_by-cons line_size line left in
+    let more : size - sum_by line_size left ≡ size - sum_by line_size before + line_size line = omega (arith, fits.0, sum) in
+    let next : FitsState t (size - sum_by line_size before + line_size line) (n + 1) =
+    subst (λ r. IfOk r (Onward (size - sum_by line_size before) n line)) (ap (λ w. update_step w s n line) (sym a) ∙ e) (step_fits lanes s (size - sum_by line_size before) n line fits.1) in
+    (omega (arith, fits.0, sum), subst (λ k. FitsState t k (n + 1)) (sym more) next)
 
 -- before the first line
-pub begins : (lanes : Bool) (after : Wanted) (s : UpdateState) (ls : List (Bor (List ℕ))) (text : List ℕ) → after ≡ after_polls lanes → s ≡ update_start → texts ls ≡ lines_of text
-    → (update_from after s 1 (texts ls) ≡ update_text_at lanes text) × FitsState s 0 1 × (sum_by line_size (texts ls) ≤ length text + 1)
-begins lanes after s ls text a b e = (
-  ap (λ w. update_from w s 1 (texts ls)) a ∙ ap (λ t. update_from (after_polls lanes) t 1 (texts ls)) b ∙ ap (update_from (after_polls lanes) update_start 1) e,
-  subst (λ t. FitsState t 0 1) (sym b) (omega arith, (refl, refl)),
-  subst (λ xs. sum_by line_size xs ≤ length text + 1) (sym e) (lines_size text),
-)
-
-pub few : {A : Type 0} (xs ys : List A) (n : ℕ) → xs ≡ ys → length ys ≤ n → length xs ≤ n
-few xs ys n e h = subst (λ zs. length zs ≤ n) (sym e) h
+pub begins : (s : UpdateState) (text : List ℕ) (lines : List (List ℕ)) → s ≡ update_start → lines ≡ lines_of text → Fitted (length text + 1) lines s 1
+begins s text lines b e =
+    let few : sum_by line_size lines ≤ length text + 1 = omega (arith, ap (sum_by line_size) e, lines_size text) in
+    (few, subst (λ t. FitsState t (length text + 1 - sum_by line_size lines) 1) (sym b) (omega arith, (refl, refl)))

@@ -7,10 +7,12 @@ pub mod Names
 pub mod Commands
 pub mod Lines
 pub mod Scripts
+pub mod Told
 pub mod Sound
 pub mod Steps
 pub mod Answers
 pub mod LiveLanes
 pub mod Printed
+pub mod Canonical
 pub mod UpdateTexts
 pub mod UpdateSizes

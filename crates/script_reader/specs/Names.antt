@@ -1,10 +1,12 @@
 -- Names of submissions. A section's names stand in a list in the order of its submissions, so that
 -- a name's place in the list is its slot.
-use Rattle.std.specs.Prelude.{ℕ, ◌&&◌, ◌||◌, nat_le, Bool, if◌then◌else◌, List, [], ◌∷◌, ◌++◌, length, position, is_some, None, Some, Ok, Err, slice_index}
+use Rattle.std.specs.Prelude.{◌≡◌, ℕ, ◌+◌, ◌-◌, ◌*◌, ◌^◌, ◌≤◌, true, ◌&&◌, ◌||◌, nat_le, Bool, if◌then◌else◌, List, [], ◌∷◌, ◌++◌, length, position, is_some, None, Some, Ok, Err, slice_index, slice_index_or}
 use Rattle.std.specs.declared.option.Option.{Option}
 use Rattle.std.specs.declared.result.Result.{Result}
 use Rattle.std.specs.List.{list_all}
 use Rattle.std.specs.Str.{bytes_eq}
+use Rattle.std.specs.Ordering.{nat_cmp}
+use Rattle.std.specs.BTreeMap.{BTreeMap, get}
 use Rattle.script_reader.specs.Codes.{not_a_name, taken_name, unknown_name}
 
 abbrev pub is_letter : ℕ → Bool
@@ -32,3 +34,16 @@ slot_at names word = if is_name word then known (slot_of names word) else Err no
 unfoldable pub with_name : List (List ℕ) → List ℕ → Result (List (List ℕ)) ℕ
 with_name names word =
     if is_name word then (if is_some (slot_of names word) then Err taken_name else Ok (names ++ word ∷ [])) else Err not_a_name
+
+-- ---- names by numbers
+
+-- the number that bytes write in base 256, the first byte the lowest
+abbrev pub key_of : List ℕ → ℕ
+key_of [] = 0
+key_of (b ∷ bs) = key_of bs * 256 + b
+
+-- what holds of names and of a map from their numbers to their slots
+pub record AreSlotsOf (slots : BTreeMap ℕ ℕ) (names : List (List ℕ)) : Type 0 where
+  pub few : length names ≤ 2 ^ 32
+  pub all : (name : List ℕ) → is_name name ≡ true → get nat_cmp slots (key_of name) ≡ slot_of names name
+  pub last : 1 ≤ length names → slot_of names (slice_index_or names (length names - 1) []) ≡ Some (length names - 1)

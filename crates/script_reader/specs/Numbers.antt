@@ -38,3 +38,8 @@ number_at word = fitting (number_of word)
 -- a number from `low` to `high`
 unfoldable pub ranged : ℕ → ℕ → List ℕ → Result ℕ ℕ
 ranged low high word = number_at word >>= λ n. if nat_le low n && nat_le n high then Ok n else Err out_of_range
+
+-- the number that 64 bits hold, where none stands for any greater one
+abbrev pub held : Option ℕ → ℕ
+held None = 2 ^ 64
+held (Some n) = n

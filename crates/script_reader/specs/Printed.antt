@@ -2,14 +2,13 @@
 use Rattle.std.specs.Prelude.{ℕ, ◌+◌, ◌*◌, nat_lt, Bool, true, false, List, [], ◌∷◌, ◌++◌, codes, None, Some, slice_index}
 use Rattle.std.specs.declared.option.Option.{Option}
 use Rattle.std.specs.Fmt.{decimal}
-use Rattle.event_words.specs.declared.access.Access.{Access}
 use Rattle.event_words.specs.declared.event.Event.TheVariants as events
 use Rattle.event_words.specs.declared.section.Stages.{Stages}
 use Rattle.event_words.specs.declared.section.Command.{Command}
 use Rattle.event_words.specs.declared.section.Command.TheVariants.{Write, Read, Submit, Judge, Settle, Until, Through}
 use Rattle.event_words.specs.declared.shape.Shape.{Shape}
 use Rattle.event_words.specs.Sections.{SectionOf}
-use Rattle.event_words.specs.Texts.{hexadecimal, kind_text, event_text}
+use Rattle.event_words.specs.Texts.{hexadecimal, event_text, access_text}
 use Rattle.script_reader.specs.Scripts.{ScriptOf}
 
 -- ---- units
@@ -49,15 +48,12 @@ stage_text false unit = []
 abbrev pub nth_stage_text : Stages → ℕ → List ℕ
 nth_stage_text stages i = stage_text (nat_lt i stages.count) (slice_index stages.units i)
 
-abbrev pub access_text : Access → List ℕ
-access_text access =
-    decimal access.rrid ++ (codes " " ++ (kind_text access.kind ++ (codes " " ++ (hexadecimal access.addr ++ (codes " " ++ decimal access.len)))))
-
--- Register accesses and submissions are written as their events are.
+-- Register accesses are written as their events are.
 abbrev pub command_text : Command → List ℕ
 command_text (Write unit index value) = event_text (events.RegWrite unit 0 index value) ++ codes "\n"
 command_text (Read unit index) = event_text (events.RegRead unit 0 index) ++ codes "\n"
-command_text (Submit unit access slot) = event_text (events.Submit unit 0 access) ++ (codes " as s" ++ (decimal slot ++ codes "\n"))
+command_text (Submit unit access slot) =
+    codes "t " ++ (decimal unit ++ (codes " " ++ (access_text access ++ (codes " as s" ++ (decimal slot ++ codes "\n")))))
 command_text (Judge slot) = codes "j s" ++ (decimal slot ++ codes "\n")
 command_text (Settle slot max) = codes "settle s" ++ (decimal slot ++ (codes " max " ++ (decimal max ++ codes "\n")))
 command_text (Until unit index mask value max) =

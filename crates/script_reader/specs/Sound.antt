@@ -7,22 +7,26 @@ use Rattle.event_words.specs.Valid.{IsValidShape}
 use Rattle.event_words.specs.Sections.{IsValidSection, IsValidStages, IsValidCommand, AreValidCommands, NamesUnits, NamesOnlyUnits, IsBelow, stage_units, is_submit}
 use Rattle.script_reader.specs.declared.reader.Place.{Place}
 use Rattle.script_reader.specs.declared.reader.Place.TheVariants.{Head, Units, Boot, Lane, Finished}
+use Rattle.script_reader.specs.Told.{HasNoSpareUnits, IsToldWhole, TellsWhole}
 use Rattle.script_reader.specs.Lines.{State, OpenSection, new_section, no_commands, next_lane}
 
 -- stages through units that are there
 pub record IsGoodStages (units : ℕ) (stages : Stages) : Type 0 where
   pub valid : IsValidStages stages
   pub there : AllByRecursion (IsBelow units) (stage_units stages)
+  pub whole : HasNoSpareUnits stages
 
 -- a command that may stand after so many submissions where there are so many units
 pub record IsGoodCommand (units slots : ℕ) (command : Command) : Type 0 where
   pub valid : IsValidCommand slots command
   pub units_there : NamesUnits units command
+  pub whole : IsToldWhole command
 
 pub record IsSoundSection (units : ℕ) (open_section : OpenSection) : Type 0 where
   pub names : length open_section.names ≡ count_by is_submit open_section.commands
   pub commands : AreValidCommands 0 open_section.commands
   pub units_there : AllByRecursion (NamesUnits units) open_section.commands
+  pub whole : AllByRecursion IsToldWhole open_section.commands
 
 -- before `boot` no section has begun
 pub record IsBlank (s : State) : Type 0 where
@@ -47,8 +51,10 @@ pub record IsSound (s : State) : Type 0 where
   pub shapes : AllByRecursion IsValidShape s.shapes
   pub boot : IsValidSection s.boot
   pub boot_units : NamesOnlyUnits (length s.shapes) s.boot
+  pub boot_whole : TellsWhole s.boot
   pub lanes : AllByRecursion IsValidSection s.lanes
   pub lanes_units : AllByRecursion (NamesOnlyUnits (length s.shapes)) s.lanes
+  pub lanes_whole : AllByRecursion TellsWhole s.lanes
   pub section : IsSoundSection (length s.shapes) s.section
   pub place : FitsPlace s.place s
 

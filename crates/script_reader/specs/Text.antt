@@ -1,6 +1,8 @@
 -- The lines of a text and the words of a line.
-use Rattle.std.specs.Prelude.{ℕ, ◌-◌, ◌==◌, ◌&&◌, ◌||◌, nat_le, Bool, if◌then◌else◌, List, [], length, filter, not, take, slice_index}
-use Rattle.std.specs.List.{slice_split}
+use Rattle.std.specs.Prelude.{◌≡◌, ℕ, ◌-◌, ◌==◌, ◌&&◌, ◌||◌, nat_le, Bool, true, if◌then◌else◌, List, [], ◌∷◌, None, Some, length, filter, not, take, slice_index}
+use Rattle.std.specs.declared.option.Option.{Option}
+use Rattle.std.specs.List.{list_all, slice_split}
+use denote.Ref.{Bor}
 
 abbrev pub is_line_feed : ℕ → Bool
 is_line_feed b = b == 10
@@ -12,6 +14,13 @@ is_blank b = b == 32 || (b == 9 || b == 13)
 -- a byte that may stand in a line
 abbrev pub is_plain : ℕ → Bool
 is_plain b = (nat_le 32 b && nat_le b 126) || (b == 9 || b == 13)
+
+-- a byte that may stand in a text of such lines
+abbrev pub is_plain_or_feed : ℕ → Bool
+is_plain_or_feed b = is_plain b || is_line_feed b
+
+abbrev pub IsPlainLine : List ℕ → Type 0
+IsPlainLine line = list_all is_plain line ≡ true
 
 -- the text without the line feed at its end, if it has one
 abbrev pub without_last_line_feed : List ℕ → List ℕ
@@ -25,3 +34,8 @@ has_bytes word = not (length word == 0)
 
 abbrev pub words_of : List ℕ → List (List ℕ)
 words_of line = filter has_bytes (slice_split is_blank line)
+
+-- the first of these lines was taken, if there was one, and the others are left
+abbrev pub Takes : List (List ℕ) → List (List ℕ) → Option (Bor (List ℕ)) → Type 0
+Takes before after None = (before ≡ []) × (after ≡ [])
+Takes before after (Some line) = before ≡ line.now ∷ after

@@ -69,31 +69,32 @@ fn kind(word: &[u8]) -> Result<Kind, u8>
 /// The access that four words from word `i` on write.
 #[tactic(auto, unfolding(crate::specs::Commands::access_at))]
 fn access(words: &Words<'_>, i: usize) -> Result<Access, u8>
-    requires { i < 2 ^ 32 }
+    requires { i ≤ 5 }
     ensures value { result ≡ access_at words.now i }
     ensures valid { IfOk result (λ access. IsValidAccess access) }
 {
     let rrid = number_within(words.word(i), 0, 63)?;
     let kind = kind(words.word(i + 1))?;
     let addr = number(words.word(i + 2))?;
-    let len = number_within(words.word(i + 3), 1, 64)?;
-    if addr > (1 << 40) - len {
+    let len = number_within(words.word(i + 3), 1, 4096)?;
+    if addr > (1 << 52) - len {
         return Err(OUT_OF_RANGE);
     }
     Ok(Access {
         rrid: rrid as u8,
         kind,
         addr,
-        len: len as u8,
+        len: len as u16,
     })
 }
 
 #[tactic(auto, unfolding(crate::specs::Commands::stage_at))]
 fn stage(units: u8, words: &Words<'_>, count: usize, i: usize) -> Result<u8, u8>
-    requires i { i < 2 ^ 32 }
+    requires i { i ≤ 3 }
     requires some { 1 ≤ units }
     ensures value { result ≡ stage_at units words.now count i }
     ensures there { IfOk result (λ unit. unit < units) }
+    ensures spare { IfOk result (λ unit. count ≤ i → unit ≡ 0) }
 {
     if i < count {
         unit(units, words.word(i + 1))

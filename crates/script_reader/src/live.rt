@@ -1,14 +1,15 @@
 // Reads the lanes of a live update.
-ghost use Rattle.std.specs.Prelude.{◌≡◌, ◌+◌, ◌≤◌, length, IfOk};
-ghost use Rattle.script_reader.specs.Steps.{Gives};
+ghost use Rattle.std.specs.Prelude.{◌≡◌, ◌+◌, ◌≤◌, true, length, IfOk, OnOk};
 ghost use Rattle.script_reader.specs.LiveLanes.{IsLiveState, AreLiveLanes, ReadsLanes};
 ghost use Rattle.script_reader.specs.LiveLanes as spec;
+ghost use Rattle.script_reader.specs.Text.{IsPlainLine};
+ghost use Rattle.script_reader.specs.Sound.{IsSound};
 
 use crate::reader::{Place, Reader, is_skipped};
-use crate::script::{ScriptError, at};
+use crate::script::{ScriptError, bad_line, refusal};
 use crate::section::OpenSection;
 use crate::step::{MISPLACED, NOT_PLAIN, StepError};
-use crate::text;
+use crate::text::{self, Lines};
 use crate::words::Words;
 use event_words::{Section, Shape};
 use std::alloc::{AllocError, Global};
@@ -27,9 +28,12 @@ const ONE_UNIT: Shape = Shape {
 };
 
 impl<'a> Reader<'a> {
+    ghost use Rattle.script_reader.specs.Steps.{Moves};
+
     /// Before the first line of a live update's lanes.
     fn at_lanes(alloc: Global) -> Result<Reader<'a>, AllocError>
-        ensures { IfOk result (λ r. r ≡ spec.lanes_start) }
+        ensures state { IfOk result (λ r. r ≡ spec.lanes_start) }
+        ensures sound { IfOk result (λ r. IsSound r) }
     {
         let mut shapes = Vec::new(alloc);
         shapes.push(ONE_UNIT)?;
@@ -55,13 +59,15 @@ impl<'a> Reader<'a> {
     }
 
     #[tactic(auto, unfolding(crate::specs::LiveLanes::lanes_words_step))]
-    fn lanes_words_line(self, alloc: Global, words: &Words<'a>) -> Result<Reader<'a>, StepError>
-        requires { length self.section.commands ≤ 4194304 }
-        ensures value { Gives result (spec.lanes_words_step self.entry words.now) }
-        ensures grown { IfOk result (λ r. length r.section.commands ≤ length self.entry.section.commands + 1) }
+    fn lanes_words_line(&mut self, alloc: Global, words: &Words<'a>) -> Result<(), StepError>
+        requires room { length self.old.section.commands ≤ 4194304 }
+        requires sound { IsSound self.old }
+        ensures value { Moves result self.new (spec.lanes_words_step self.old words.now) }
+        ensures sound { OnOk result (IsSound self.new) }
+        ensures grown { OnOk result (length self.new.section.commands ≤ length self.old.section.commands + 1) }
     {
         if is_skipped(words) {
-            return Ok(self);
+            return Ok(());
         }
         if !self.may_stand(words) {
             return Err(StepError::Code(MISPLACED));
@@ -69,23 +75,33 @@ impl<'a> Reader<'a> {
         self.placed_line(alloc, words)
     }
 
-    /// The state after one more line of the lanes.
+    /// Reads one more line of the lanes. `words` serves each line in turn, and `plain` tells that the line is known to be plain.
     #[tactic(auto, unfolding(crate::specs::LiveLanes::lanes_line_step))]
-    fn lanes_line(self, alloc: Global, line: &'a [u8]) -> Result<Reader<'a>, StepError>
-        requires { length self.section.commands ≤ 4194304 }
-        ensures value { Gives result (spec.lanes_line_step self.entry line.entry.now) }
-        ensures grown { IfOk result (λ r. length r.section.commands ≤ length self.entry.section.commands + 1) }
+    fn lanes_line(
+        &mut self,
+        alloc: Global,
+        words: &mut Words<'a>,
+        line: &'a [u8],
+        plain: bool,
+    ) -> Result<(), StepError>
+        requires room { length self.old.section.commands ≤ 4194304 }
+        requires sound { IsSound self.old }
+        requires plain { plain ≡ true → IsPlainLine line.now }
+        ensures value { Moves result self.new (spec.lanes_line_step self.old line.entry.now) }
+        ensures sound { OnOk result (IsSound self.new) }
+        ensures grown { OnOk result (length self.new.section.commands ≤ length self.old.section.commands + 1) }
     {
-        if !text::is_plain_line(line) {
+        if !text::is_plain_line(line, plain) {
             return Err(StepError::Code(NOT_PLAIN));
         }
-        let words = Words::of(alloc, line)?;
-        self.lanes_words_line(alloc, &words)
+        words.read(line);
+        self.lanes_words_line(alloc, words)
     }
 }
 
 // The lanes after lane 1, where `end` stood.
 fn finish(reader: Reader<'_>, line: u32) -> Result<Vec<Section>, ScriptError>
+    requires { IsSound reader }
     ensures lanes { ReadsLanes result (spec.lanes_end reader.entry.place reader.entry line) }
     ensures formed { IsLiveState reader.entry → IfOk result (λ lanes. AreLiveLanes lanes.items) }
 {
@@ -101,10 +117,7 @@ fn finish(reader: Reader<'_>, line: u32) -> Result<Vec<Section>, ScriptError>
             }
             Ok(lanes)
         }
-        _ => Err(ScriptError::BadLine {
-            line,
-            code: MISPLACED,
-        }),
+        _ => Err(bad_line(line, MISPLACED)),
     }
 }
 
@@ -117,17 +130,16 @@ pub fn read_lanes(alloc: Global, bytes: &[u8], first_line: u32) -> Result<Vec<Se
     ensures lanes { ReadsLanes result (spec.lanes_at first_line bytes.now) }
     ensures formed { IfOk result (λ lanes. AreLiveLanes lanes.items) }
 {
-    let Ok(lines) = text::lines(alloc, bytes) else {
-        return Err(ScriptError::NoMemory);
-    };
     let Ok(mut reader) = Reader::at_lanes(alloc) else {
         return Err(ScriptError::NoMemory);
     };
+    let plain = text::is_plain_text(bytes);
+    let mut words = Words::new();
+    let mut lines = Lines::of(bytes);
     let mut number = first_line;
-    for line in &lines {
-        match reader.lanes_line(alloc, line) {
-            Ok(next) => reader = next,
-            Err(error) => return Err(at(number, error)),
+    while let Some(line) = lines.next() {
+        if let Err(error) = reader.lanes_line(alloc, &mut words, line, plain) {
+            return Err(refusal(number, error));
         }
         number += 1;
     }

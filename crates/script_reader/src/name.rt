@@ -1,12 +1,12 @@
 // Names of submissions.
-ghost use Rattle.std.specs.Prelude.{◌≡◌, ◌+◌, ◌<◌, ◌^◌, length, IfOk, IfSome};
+ghost use Rattle.std.specs.Prelude.{◌≡◌, ◌<◌, ◌≤◌, ◌^◌, true, length, Some, IfOk, IfSome};
 ghost use Rattle.std.specs.List.{list_all};
-ghost use Rattle.script_reader.specs.Names.{is_letter, is_letter_or_digit, is_name, slot_of, slot_at, with_name};
-ghost use Rattle.script_reader.specs.Steps.{Gives};
+ghost use Rattle.script_reader.specs.Names.{is_letter, is_letter_or_digit, is_name, key_of, slot_of, slot_at, with_name};
+ghost use Rattle.script_reader.specs.Steps.{Moves};
 
 use crate::step::{NOT_A_NAME, StepError, TAKEN_NAME, UNKNOWN_NAME};
 use std::alloc::Global;
-use std::collections::HashMap;
+use std::collections::BTreeMap;
 use std::marker::Model;
 
 fn is_letter(byte: u8) -> bool
@@ -34,24 +34,36 @@ fn is_name(word: &[u8]) -> bool
     1 <= word.len() && word.len() <= 8 && is_letter(word[0]) && are_letters_or_digits(word)
 }
 
+/// The number that a name's bytes write in base 256, the first byte the lowest.
+fn key(name: &[u8]) -> u64
+    requires { length name.now ≤ 8 }
+    ensures { result ≡ key_of name.now }
+{
+    let mut key = 0u64;
+    let mut left = name.len();
+    while 0 < left {
+        left -= 1;
+        key = key * 256 + u64::from(name[left]);
+    }
+    key
+}
+
 /// The names of a section's submissions in their order. A name's place among them is its slot.
 #[derive(Drop)]
 pub struct Names<'a> {
     words: Vec<&'a [u8]>,
-    slots: HashMap<&'a [u8], u32>,
+    slots: BTreeMap<u64, u32>,
 }
 
 impl<'a> Model for Names<'a> {
-    ghost use Rattle.std.specs.Prelude.{◌≡◌, ◌<◌, ◌^◌, ℕ, List, map, length};
-    ghost use Rattle.std.specs.HashMap.{get_by};
-    ghost use Rattle.std.specs.Str.{bytes_eq};
-    ghost use Rattle.script_reader.specs.Names.{slot_of};
+    ghost use Rattle.std.specs.Prelude.{ℕ, List, map};
+    ghost use Rattle.script_reader.specs.Names.{AreSlotsOf};
 
     ghost Value = { List (List ℕ) };
 
     ghost view = { λ n. map (λ x. x.now) n.words.items };
 
-    ghost invariant = { λ n. (q : List ℕ) → get_by (λ k. bytes_eq q k.now) n.slots ≡ slot_of (map (λ x. x.now) n.words.items) q };
+    ghost invariant = { λ n. AreSlotsOf n.slots (map (λ x. x.now) n.words.items) };
 }
 
 impl<'a> Names<'a> {
@@ -61,7 +73,7 @@ impl<'a> Names<'a> {
     {
         Names {
             words: Vec::new(alloc),
-            slots: HashMap::new(alloc),
+            slots: BTreeMap::new(alloc),
         }
     }
 
@@ -72,11 +84,28 @@ impl<'a> Names<'a> {
         self.words.len()
     }
 
-    fn slot(&self, word: &[u8]) -> Option<u32>
-        ensures value { result ≡ slot_of self.now word.now }
+    /// The slot of the last name, where it is this one.
+    fn last_slot(&self, name: &[u8]) -> Option<u32>
+        ensures { IfSome result (λ slot. slot_of self.now name.now ≡ Some slot) }
+    {
+        let count = self.words.len();
+        if count != 0 && self.words[count - 1] == name {
+            return Some((count - 1) as u32);
+        }
+        None
+    }
+
+    /// The slot of a name. It is looked for among all only where it isn't the last, which is meant most often.
+    #[tactic(auto, using(crate::proofs::Keys::name_short))]
+    fn slot(&self, name: &[u8]) -> Option<u32>
+        requires { is_name name.now ≡ true }
+        ensures value { result ≡ slot_of self.now name.now }
         ensures below { IfSome result (λ slot. slot < length self.now) }
     {
-        self.slots.get(&word).copied()
+        match self.last_slot(name) {
+            Some(slot) => Some(slot),
+            None => self.slots.get(&key(name)).copied(),
+        }
     }
 
     /// The slot of a name that a submission before has.
@@ -94,26 +123,26 @@ impl<'a> Names<'a> {
         }
     }
 
-    /// With a new name. Its slot is the number of names before it.
-    #[tactic(auto, unfolding(crate::specs::Names::with_name))]
-    pub fn with(self, word: &'a [u8]) -> Result<Names<'a>, StepError>
-        requires { length self < 2 ^ 32 }
-        ensures value { Gives result (with_name self.entry word.entry.now) }
-        ensures more { IfOk result (λ names. length names ≡ length self.entry + 1) }
+    /// Adds a new name. Its slot is the number of names before it.
+    #[tactic(auto, using(crate::proofs::Keys::name_short), unfolding(crate::specs::Names::with_name))]
+    pub fn add(&mut self, word: &'a [u8]) -> Result<(), StepError>
+        requires { length self.old < 2 ^ 32 }
+        ensures { Moves result self.new (with_name self.old word.entry.now) }
     {
         if !is_name(word) {
             return Err(StepError::Code(NOT_A_NAME));
         }
-        if self.slot(word).is_some() {
+        let next = self.words.len() as u32;
+        self.words.push(word)?;
+        let Ok(entry) = self.slots.entry(key(word)) else {
+            self.words.pop();
+            return Err(StepError::NoMemory);
+        };
+        let slot = *entry.or_insert(next);
+        if slot != next {
+            self.words.pop();
             return Err(StepError::Code(TAKEN_NAME));
         }
-        let Names {
-            mut words,
-            mut slots,
-        } = self;
-        let slot = words.len() as u32;
-        words.push(word)?;
-        slots.insert(word, slot)?;
-        Ok(Names { words, slots })
+        Ok(())
     }
 }

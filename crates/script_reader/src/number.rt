@@ -1,14 +1,15 @@
 // The number that a word writes.
-ghost use Rattle.std.specs.Prelude.{◌≡◌, ◌^◌, ◌-◌, ◌≤◌, ◌<◌, min, IfOk};
+ghost use Rattle.std.specs.Prelude.{◌≡◌, ◌^◌, ◌≤◌, ◌<◌, ◌+◌, ◌*◌, min, Some, IfOk, IfSome};
 ghost use Rattle.std.specs.Option.{option_map};
-ghost use Rattle.script_reader.specs.Numbers.{digit_of, numeral_of, number_of, number_at, ranged};
+ghost use Rattle.script_reader.specs.Numbers.{digit_of, numeral_of, number_of, number_at, ranged, fitting, held};
 
 use crate::step::{NOT_A_NUMBER, OUT_OF_RANGE};
 
 #[tactic(auto, unfolding(crate::specs::Numbers::digit_of))]
-fn digit(base: u128, byte: u8) -> Option<u128>
+fn digit(base: u64, byte: u8) -> Option<u64>
     requires { base ≤ 16 }
-    ensures { result ≡ digit_of base byte }
+    ensures value { result ≡ digit_of base byte }
+    ensures small { IfSome result (λ d. d < 16) }
 {
     let value = match byte {
         b'0'..=b'9' => byte - b'0',
@@ -16,32 +17,42 @@ fn digit(base: u128, byte: u8) -> Option<u128>
         b'A'..=b'Z' => byte - b'A' + 10,
         _ => 36,
     };
-    if u128::from(value) < base {
-        Some(u128::from(value))
+    if u64::from(value) < base {
+        Some(u64::from(value))
     } else {
         None
     }
 }
 
-fn numeral(base: u128, most: usize, digits: &[u8]) -> Option<u128>
+/// A number with one digit more. None stands for a number above the greatest of 64 bits.
+fn with_digit(base: u64, number: Option<u64>, digit: u64) -> Option<u64>
+    requires { 1 ≤ base }
+    ensures { held result ≡ min (held number * base + digit) (2 ^ 64) }
+{
+    number?.checked_mul(base)?.checked_add(digit)
+}
+
+/// The number that digits write: none where they aren't 1 to `most` digits of the base, and then none where it is above
+/// the greatest of 64 bits.
+fn numeral(base: u64, most: usize, digits: &[u8]) -> Option<Option<u64>>
     requires low { 1 ≤ base }
     requires high { base ≤ 16 }
-    ensures { result ≡ option_map (λ n. min n (2 ^ 128 - 1)) (numeral_of base most digits.now) }
+    ensures { option_map held result ≡ option_map (λ n. min n (2 ^ 64)) (numeral_of base most digits.now) }
 {
     if digits.is_empty() || digits.len() > most {
         return None;
     }
-    let mut value = 0u128;
+    let mut number = Some(0u64);
     for byte in digits {
         let digit = digit(base, *byte)?;
-        value = value.saturating_mul(base).saturating_add(digit);
+        number = with_digit(base, number, digit);
     }
-    Some(value)
+    Some(number)
 }
 
 #[tactic(auto, unfolding(crate::specs::Numbers::number_of))]
-fn number_in(word: &[u8]) -> Option<u128>
-    ensures { result ≡ option_map (λ n. min n (2 ^ 128 - 1)) (number_of word.now) }
+fn number_in(word: &[u8]) -> Option<Option<u64>>
+    ensures { option_map held result ≡ option_map (λ n. min n (2 ^ 64)) (number_of word.now) }
 {
     match word {
         [b'0', b'x', digits @ ..] => numeral(16, 16, digits),
@@ -49,15 +60,22 @@ fn number_in(word: &[u8]) -> Option<u128>
     }
 }
 
+fn in_64_bits(number: Option<u64>) -> Result<u64, u8>
+    ensures { result ≡ fitting (Some (held number)) }
+{
+    match number {
+        None => Err(OUT_OF_RANGE),
+        Some(n) => Ok(n),
+    }
+}
+
 /// The number that a word writes. It is out of range above the greatest of 64 bits.
-#[tactic(auto, using(crate::proofs::Numerals::none_is, crate::proofs::Numerals::some_is, crate::proofs::Numerals::far_is))]
 pub fn number(word: &[u8]) -> Result<u64, u8>
     ensures { result ≡ number_at word.now }
 {
     match number_in(word) {
         None => Err(NOT_A_NUMBER),
-        Some(n) if n > u128::from(u64::MAX) => Err(OUT_OF_RANGE),
-        Some(n) => Ok(n as u64),
+        Some(number) => in_64_bits(number),
     }
 }
 

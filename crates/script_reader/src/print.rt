@@ -1,76 +1,44 @@
-// Prints a script, or a lane by itself.
-ghost use Rattle.std.specs.Prelude.{◌≡◌, ◌++◌, Some, IfOk, OnOk};
-ghost use Rattle.std.specs.String.{string_bytes};
-ghost use Rattle.event_words.specs.Texts.{kind_text};
-ghost use Rattle.script_reader.specs.Printed.{translation_text, sps_number, sizes_text, tables_text, requests_text, unit_text, unit_texts, stage_text, access_text, command_text, command_texts, lane_text, lane_texts, script_text};
+// Prints a script, or a lane by itself. A line is made from its end, and added in one piece.
+ghost use Rattle.std.specs.Prelude.{◌≡◌, ◌+◌, ◌≤◌, ◌++◌, length, codes, Ok, IfOk, OnOk};
+ghost use Rattle.std.specs.Fmt.{decimal};
+ghost use Rattle.event_words.specs.Texts.{event_text};
+ghost use Rattle.script_reader.specs.Answers.{reading_of};
+ghost use Rattle.script_reader.specs.Canonical.{IsReadableScript, AddsLane};
+ghost use Rattle.script_reader.specs.Printed.{translation_text, sps_number, sizes_text, tables_text, requests_text, unit_text, unit_texts, stage_text, command_text, command_texts, lane_text, lane_texts, script_text};
 
 use crate::script::Script;
-use event_words::{Access, Command, Event, Kind, Section, Shape, Stages};
+use event_words::{Access, Command, Event, Line, Section, Shape, Stages};
 use std::alloc::{AllocError, Global};
-use std::fmt;
 
 /// Memory ran out.
 #[derive(Clone, Copy, Debug, PartialEq, Eq)]
 pub struct NoMemory;
 
-/// The requester of outgoing transactions, or a dash for none.
-#[derive(Drop)]
-struct Translation(Option<u8>);
+/// The most bytes of the line of a command that can be read, so that there is room for all lines at
+/// once: `through` with four units and all numbers at their longest. A longer line only makes more room.
+const MOST_BYTES: usize = 52;
 
-impl fmt::Display for Translation {
-    ghost output = { λ t. Some (translation_text t.0) };
-
-    fn fmt<W: fmt::Write>(&self, f: &mut fmt::Formatter<W>) -> fmt::Result {
-        match self.0 {
-            Some(rrid) => write!(f, "{rrid}"),
-            None => write!(f, "-"),
-        }
-    }
-}
-
-/// The unit of a stage, where it stands.
-#[derive(Drop)]
-struct Stage {
-    stands: bool,
-    unit: u8,
-}
-
-impl fmt::Display for Stage {
-    ghost output = { λ s. Some (stage_text s.stands s.unit) };
-
-    fn fmt<W: fmt::Write>(&self, f: &mut fmt::Formatter<W>) -> fmt::Result {
-        let unit = self.unit;
-        if self.stands {
-            write!(f, " {unit}")
-        } else {
-            Ok(())
-        }
-    }
-}
-
-/// The words of an access.
-#[derive(Drop)]
-struct AccessWords(Access);
-
-impl fmt::Display for AccessWords {
-    ghost output = { λ a. Some (access_text a.0) };
-
-    fn fmt<W: fmt::Write>(&self, f: &mut fmt::Formatter<W>) -> fmt::Result {
-        let rrid = self.0.rrid;
-        let kind = kind_word(self.0.kind);
-        let addr = self.0.addr;
-        let len = self.0.len;
-        write!(f, "{rrid} {kind} 0x{addr:x} {len}")
-    }
-}
-
-fn kind_word(kind: Kind) -> &'static str
-    ensures { result.now ≡ kind_text kind }
+/// Puts the requester of outgoing transactions, or a dash for none.
+fn put_translation(line: &mut Line, transl: Option<u8>)
+    requires { length line.old ≤ 236 }
+    ensures text { line.new ≡ translation_text transl ++ line.old }
+    ensures few { length line.new ≤ length line.old + 20 }
 {
-    match kind {
-        Kind::Read => "r",
-        Kind::Write => "w",
-        Kind::Fetch => "x",
+    match transl {
+        Some(rrid) => line.put_decimal(rrid as u64),
+        None => line.put(b"-"),
+    }
+}
+
+/// Puts the unit of a stage, where it stands.
+fn put_stage(line: &mut Line, stands: bool, unit: u8)
+    requires { length line.old ≤ 235 }
+    ensures text { line.new ≡ stage_text stands unit ++ line.old }
+    ensures few { length line.new ≤ length line.old + 21 }
+{
+    if stands {
+        line.put_decimal(unit as u64);
+        line.put(b" ");
     }
 }
 
@@ -80,215 +48,280 @@ fn sps_number(sps: bool) -> u8
     if sps { 1 } else { 0 }
 }
 
-fn push_sizes(out: &mut String, shape: &Shape) -> Result<(), AllocError>
-    ensures { OnOk result (string_bytes out.new ≡ string_bytes out.old ++ sizes_text shape.now) }
+fn put_sizes(line: &mut Line, shape: &Shape)
+    requires { length line.old ≤ 158 }
+    ensures text { line.new ≡ sizes_text shape.now ++ line.old }
+    ensures few { length line.new ≤ length line.old + 90 }
 {
-    let rrids = shape.rrids;
-    let domains = shape.domains;
-    let entries = shape.entries;
-    write!(
-        out,
-        "unit rrids {rrids} domains {domains} entries {entries}"
-    )
+    line.put_decimal(shape.entries as u64);
+    line.put(b" entries ");
+    line.put_decimal(shape.domains as u64);
+    line.put(b" domains ");
+    line.put_decimal(shape.rrids as u64);
+    line.put(b"unit rrids ");
 }
 
-fn push_tables(out: &mut String, shape: &Shape) -> Result<(), AllocError>
-    ensures { OnOk result (string_bytes out.new ≡ string_bytes out.old ++ tables_text shape.now) }
+fn put_tables(line: &mut Line, shape: &Shape)
+    requires { length line.old ≤ 81 }
+    ensures text { line.new ≡ tables_text shape.now ++ line.old }
+    ensures few { length line.new ≤ length line.old + 77 }
 {
-    let mdcfg = shape.mdcfg;
-    let k = shape.k;
-    let srcmd = shape.srcmd;
-    write!(out, " mdcfg {mdcfg} k {k} srcmd {srcmd}")
+    line.put_decimal(shape.srcmd as u64);
+    line.put(b" srcmd ");
+    line.put_decimal(shape.k as u64);
+    line.put(b" k ");
+    line.put_decimal(shape.mdcfg as u64);
+    line.put(b" mdcfg ");
 }
 
-fn push_requests(out: &mut String, shape: &Shape) -> Result<(), AllocError>
-    ensures { OnOk result (string_bytes out.new ≡ string_bytes out.old ++ requests_text shape.now) }
+fn put_requests(line: &mut Line, shape: &Shape)
+    requires { length line.old ≤ 1 }
+    ensures text { line.new ≡ requests_text shape.now ++ line.old }
+    ensures few { length line.new ≤ length line.old + 80 }
 {
-    let sps = sps_number(shape.sps);
-    let queue = shape.queue;
-    let transl = Translation(shape.transl);
-    write!(out, " sps {sps} queue {queue} transl {transl}")
+    put_translation(line, shape.transl);
+    line.put(b" transl ");
+    line.put_decimal(shape.queue as u64);
+    line.put(b" queue ");
+    line.put_decimal(sps_number(shape.sps) as u64);
+    line.put(b" sps ");
 }
 
-fn push_unit(out: &mut String, shape: &Shape) -> Result<(), AllocError>
-    ensures { OnOk result (string_bytes out.new ≡ string_bytes out.old ++ unit_text shape.now) }
+fn push_unit(out: &mut Vec<u8>, line: &mut Line, shape: &Shape) -> Result<(), AllocError>
+    ensures { OnOk result (out.new.items ≡ out.old.items ++ unit_text shape.now) }
 {
-    push_sizes(out, shape)?;
-    push_tables(out, shape)?;
-    push_requests(out, shape)?;
-    out.push_str("\n")
+    line.clear();
+    line.put(b"\n");
+    put_requests(line, shape);
+    put_tables(line, shape);
+    put_sizes(line, shape);
+    out.extend_from_slice(line.bytes())
 }
 
-fn push_units(out: &mut String, shapes: &[Shape]) -> Result<(), AllocError>
-    ensures { OnOk result (string_bytes out.new ≡ string_bytes out.old ++ unit_texts shapes.now) }
+fn push_units(out: &mut Vec<u8>, line: &mut Line, shapes: &[Shape]) -> Result<(), AllocError>
+    ensures { OnOk result (out.new.items ≡ out.old.items ++ unit_texts shapes.now) }
 {
     for shape in shapes {
-        push_unit(out, shape)?;
+        push_unit(out, line, shape)?;
     }
     Ok(())
 }
 
-fn push_through(
-    out: &mut String,
-    stages: &Stages,
-    access: Access,
-    max: u32,
-) -> Result<(), AllocError>
-    ensures { OnOk result (string_bytes out.new ≡ string_bytes out.old ++ command_text (Command.Through stages.now access max)) }
+/// Puts ` max`, a number and the end of the line into an empty line.
+fn put_max(line: &mut Line, max: u32)
+    ensures text { line.new ≡ codes " max " ++ (decimal max ++ codes "\n") }
+    ensures few { length line.new ≤ 26 }
+{
+    line.clear();
+    line.put(b"\n");
+    line.put_decimal(max as u64);
+    line.put(b" max ");
+}
+
+fn put_through(line: &mut Line, stages: &Stages, access: &Access, max: u32)
+    ensures { line.new ≡ command_text (Command.Through stages.now access.now max) }
 {
     let count = stages.count;
-    let first = Stage {
-        stands: 0 < count,
-        unit: stages.units[0],
-    };
-    let second = Stage {
-        stands: 1 < count,
-        unit: stages.units[1],
-    };
-    let third = Stage {
-        stands: 2 < count,
-        unit: stages.units[2],
-    };
-    let fourth = Stage {
-        stands: 3 < count,
-        unit: stages.units[3],
-    };
-    let access = AccessWords(access);
-    write!(
-        out,
-        "through{first}{second}{third}{fourth} {access} max {max}\n"
-    )
+    put_max(line, max);
+    line.put_access(access);
+    line.put(b" ");
+    put_stage(line, 3 < count, stages.units[3]);
+    put_stage(line, 2 < count, stages.units[2]);
+    put_stage(line, 1 < count, stages.units[1]);
+    put_stage(line, 0 < count, stages.units[0]);
+    line.put(b"through");
 }
 
-fn push_until(
-    out: &mut String,
-    unit: u8,
-    index: u32,
-    mask: u32,
-    value: u32,
-    max: u32,
-) -> Result<(), AllocError>
-    ensures { OnOk result (string_bytes out.new ≡ string_bytes out.old ++ command_text (Command.Until unit index mask value max)) }
+fn put_until(line: &mut Line, unit: u8, index: u32, mask: u32, value: u32, max: u32)
+    ensures { line.new ≡ command_text (Command.Until unit index mask value max) }
 {
-    let offset = index as u64 * 4;
-    write!(
-        out,
-        "until {unit} 0x{offset:x} 0x{mask:x} 0x{value:x} max {max}\n"
-    )
+    put_max(line, max);
+    line.put_hexadecimal(value as u64);
+    line.put(b" ");
+    line.put_hexadecimal(mask as u64);
+    line.put(b" ");
+    line.put_hexadecimal(index as u64 * 4);
+    line.put(b" ");
+    line.put_decimal(unit as u64);
+    line.put(b"until ");
 }
 
-fn push_command(out: &mut String, command: &Command) -> Result<(), AllocError>
-    ensures { OnOk result (string_bytes out.new ≡ string_bytes out.old ++ command_text command.now) }
+/// Puts a slot's number and the end of the line into an empty line.
+fn put_slot(line: &mut Line, slot: u32)
+    ensures text { line.new ≡ decimal slot ++ codes "\n" }
+    ensures few { length line.new ≤ 21 }
+{
+    line.clear();
+    line.put(b"\n");
+    line.put_decimal(slot as u64);
+}
+
+/// Makes the line of a register access: of an event.
+fn put_access_line(line: &mut Line, event: &Event)
+    ensures { line.new ≡ event_text event.now ++ codes "\n" }
+{
+    line.clear();
+    line.put(b"\n");
+    line.put_event(event);
+}
+
+fn put_submit(line: &mut Line, unit: u8, access: Access, slot: u32)
+    ensures { line.new ≡ command_text (Command.Submit unit access slot) }
+{
+    put_slot(line, slot);
+    line.put(b" as s");
+    line.put_event(&Event::Submit {
+        unit,
+        caller: 0,
+        access,
+    });
+}
+
+fn put_settle(line: &mut Line, slot: u32, max: u32)
+    ensures { line.new ≡ command_text (Command.Settle slot max) }
+{
+    put_max(line, max);
+    line.put_decimal(slot as u64);
+    line.put(b"settle s");
+}
+
+/// Makes the line of a command.
+fn put_command(line: &mut Line, command: &Command)
+    ensures { line.new ≡ command_text command.now }
 {
     match *command {
-        Command::Write { unit, index, value } => {
-            let event = Event::RegWrite {
+        Command::Write { unit, index, value } => put_access_line(
+            line,
+            &Event::RegWrite {
                 unit,
                 caller: 0,
                 index,
                 value,
-            };
-            write!(out, "{event}\n")
-        }
-        Command::Read { unit, index } => {
-            let event = Event::RegRead {
+            },
+        ),
+        Command::Read { unit, index } => put_access_line(
+            line,
+            &Event::RegRead {
                 unit,
                 caller: 0,
                 index,
-            };
-            write!(out, "{event}\n")
+            },
+        ),
+        Command::Submit { unit, access, slot } => put_submit(line, unit, access, slot),
+        Command::Judge { slot } => {
+            put_slot(line, slot);
+            line.put(b"j s")
         }
-        Command::Submit { unit, access, slot } => {
-            let event = Event::Submit {
-                unit,
-                caller: 0,
-                access,
-            };
-            write!(out, "{event} as s{slot}\n")
-        }
-        Command::Judge { slot } => write!(out, "j s{slot}\n"),
-        Command::Settle { slot, max } => write!(out, "settle s{slot} max {max}\n"),
+        Command::Settle { slot, max } => put_settle(line, slot, max),
         Command::Until {
             unit,
             index,
             mask,
             value,
             max,
-        } => push_until(out, unit, index, mask, value, max),
+        } => put_until(line, unit, index, mask, value, max),
         Command::Through {
             stages,
             access,
             max,
-        } => push_through(out, &stages, access, max),
+        } => put_through(line, &stages, &access, max),
     }
 }
 
-fn push_commands(out: &mut String, commands: &[Command]) -> Result<(), AllocError>
-    ensures { OnOk result (string_bytes out.new ≡ string_bytes out.old ++ command_texts commands.now) }
+fn push_command(out: &mut Vec<u8>, line: &mut Line, command: &Command) -> Result<(), AllocError>
+    ensures { OnOk result (out.new.items ≡ out.old.items ++ command_text command.now) }
 {
+    put_command(line, command);
+    out.extend_from_slice(line.bytes())
+}
+
+fn push_commands(out: &mut Vec<u8>, line: &mut Line, commands: &[Command]) -> Result<(), AllocError>
+    ensures { OnOk result (out.new.items ≡ out.old.items ++ command_texts commands.now) }
+{
+    out.reserve(commands.len().saturating_mul(MOST_BYTES))?;
     for command in commands {
-        push_command(out, command)?;
+        push_command(out, line, command)?;
     }
     Ok(())
 }
 
-fn push_lane(out: &mut String, number: u64, lane: &Section) -> Result<(), AllocError>
-    ensures { OnOk result (string_bytes out.new ≡ string_bytes out.old ++ lane_text number lane.now) }
+fn push_heading(out: &mut Vec<u8>, line: &mut Line, number: u64) -> Result<(), AllocError>
+    ensures { OnOk result (out.new.items ≡ out.old.items ++ (codes "lane " ++ (decimal number ++ codes "\n"))) }
 {
-    write!(out, "lane {number}\n")?;
-    push_commands(out, &lane.commands)
+    line.clear();
+    line.put(b"\n");
+    line.put_decimal(number);
+    line.put(b"lane ");
+    out.extend_from_slice(line.bytes())
 }
 
-fn push_lanes(out: &mut String, lanes: &[Section]) -> Result<(), AllocError>
-    ensures { OnOk result (string_bytes out.new ≡ string_bytes out.old ++ lane_texts 1 lanes.now) }
+fn push_lane(
+    out: &mut Vec<u8>,
+    line: &mut Line,
+    number: u64,
+    lane: &Section,
+) -> Result<(), AllocError>
+    ensures { OnOk result (out.new.items ≡ out.old.items ++ lane_text number lane.now) }
+{
+    push_heading(out, line, number)?;
+    push_commands(out, line, &lane.commands)
+}
+
+fn push_lanes(out: &mut Vec<u8>, line: &mut Line, lanes: &[Section]) -> Result<(), AllocError>
+    ensures { OnOk result (out.new.items ≡ out.old.items ++ lane_texts 1 lanes.now) }
 {
     for (place, lane) in lanes.iter().enumerate() {
-        push_lane(out, place as u64 + 1, lane)?;
+        push_lane(out, line, place as u64 + 1, lane)?;
     }
     Ok(())
 }
 
-fn script_string(alloc: Global, script: &Script) -> Result<String, AllocError>
-    ensures { IfOk result (λ text. string_bytes text ≡ script_text script.now) }
+fn script_bytes(alloc: Global, script: &Script) -> Result<Vec<u8>, AllocError>
+    ensures { IfOk result (λ text. text.items ≡ script_text script.now) }
 {
-    let mut out = format!(in alloc; "iopmp 1\n")?;
-    push_units(&mut out, &script.shapes)?;
-    out.push_str("boot\n")?;
-    push_commands(&mut out, &script.boot.commands)?;
-    push_lanes(&mut out, &script.lanes)?;
-    out.push_str("end\n")?;
+    let mut line = Line::new();
+    let mut out = Vec::from_slice(alloc, b"iopmp 1\n")?;
+    push_units(&mut out, &mut line, &script.shapes)?;
+    out.extend_from_slice(b"boot\n")?;
+    push_commands(&mut out, &mut line, &script.boot.commands)?;
+    push_lanes(&mut out, &mut line, &script.lanes)?;
+    out.extend_from_slice(b"end\n")?;
     Ok(out)
 }
 
 /// The canonical text of a script: one space between words, no comments, offsets, values, masks
 /// and addresses in hexadecimal and other numbers in decimal. The names are `s0`, `s1` and so on,
-/// in the order of a section's submissions. A script that can't be read has a text too, which then
-/// need not stand for it.
+/// in the order of a section's submissions. The reader gives the script for this text. A script that
+/// can't be read has a text too, which then need not stand for it.
 pub fn print_script(alloc: Global, script: &Script) -> Result<Vec<u8>, NoMemory>
-    ensures { IfOk result (λ text. text.items ≡ script_text script.now) }
+    ensures text { IfOk result (λ text. text.items ≡ script_text script.now) }
+    ensures read { IsReadableScript script.now → IfOk result (λ text. reading_of text.items ≡ Ok script.now) }
 {
-    match script_string(alloc, script) {
-        Ok(text) => Ok(text.into_bytes()),
+    match script_bytes(alloc, script) {
+        Ok(text) => Ok(text),
         Err(_) => Err(NoMemory),
     }
 }
 
-fn lane_string(alloc: Global, number: u8, section: &Section) -> Result<String, AllocError>
-    ensures { IfOk result (λ text. string_bytes text ≡ lane_text number section.now) }
+fn lane_bytes(alloc: Global, number: u8, section: &Section) -> Result<Vec<u8>, AllocError>
+    ensures { IfOk result (λ text. text.items ≡ lane_text number section.now) }
 {
-    let mut out = String::new(alloc);
-    push_lane(&mut out, number as u64, section)?;
+    let mut line = Line::new();
+    let mut out = Vec::new(alloc);
+    push_lane(&mut out, &mut line, number as u64, section)?;
     Ok(out)
 }
 
 /// The canonical text of a lane and its commands, as `print_script` writes them: the line `lane`
-/// with the number, then a line for each command. A lane that can't be read, as one whose number is
-/// not 1 to 16, has a text too, which then need not stand for it.
+/// with the number, then a line for each command. Before the last line of a script with one lane fewer
+/// the reader takes this text as the lane. A lane that can't be read, as one whose number is not 1 to 16,
+/// has a text too, which then need not stand for it.
 pub fn print_lane(alloc: Global, number: u8, section: &Section) -> Result<Vec<u8>, NoMemory>
-    ensures { IfOk result (λ text. text.items ≡ lane_text number section.now) }
+    ensures text { IfOk result (λ text. text.items ≡ lane_text number section.now) }
+    ensures read { IfOk result (λ text. AddsLane number section.now text.items) }
 {
-    match lane_string(alloc, number, section) {
-        Ok(text) => Ok(text.into_bytes()),
+    match lane_bytes(alloc, number, section) {
+        Ok(text) => Ok(text),
         Err(_) => Err(NoMemory),
     }
 }

@@ -1,7 +1,8 @@
 // Reads a script line by line.
-ghost use Rattle.std.specs.Prelude.{◌≡◌, ◌+◌, ◌<◌, ◌≤◌, length, IfOk};
+ghost use Rattle.std.specs.Prelude.{◌≡◌, ◌+◌, ◌<◌, ◌≤◌, true, length, OnOk};
 ghost use Rattle.script_reader.specs.Lines as spec;
 ghost use Rattle.script_reader.specs.Numbers.{number_at};
+ghost use Rattle.script_reader.specs.Text.{IsPlainLine};
 
 use crate::command::{command, submit};
 use crate::number::number;
@@ -13,6 +14,7 @@ use crate::words::Words;
 use event_words::{Section, Shape};
 use std::alloc::Global;
 use std::marker::Model;
+use std::mem;
 
 /// Which lines may come next.
 #[derive(Clone, Copy, Debug, PartialEq, Eq)]
@@ -29,7 +31,7 @@ pub enum Place {
     Finished,
 }
 
-/// What the lines so far gave, and which may come next.
+/// What the lines so far gave, and which may come next. After a line that is refused it is of no more use.
 #[derive(Drop)]
 pub struct Reader<'a> {
     pub place: Place,
@@ -41,13 +43,10 @@ pub struct Reader<'a> {
 
 impl<'a> Model for Reader<'a> {
     ghost use Rattle.script_reader.specs.Lines.{State};
-    ghost use Rattle.script_reader.specs.Sound.{IsSound};
 
     ghost Value = { State };
 
     ghost view = { λ r. record { place = r.place; shapes = r.shapes.items; boot = r.boot; lanes = r.lanes.items; section = r.section } };
-
-    ghost invariant = { λ r. IsSound (record { place = r.place; shapes = r.shapes.items; boot = r.boot; lanes = r.lanes.items; section = r.section }) };
 }
 
 fn is_head(words: &Words<'_>) -> bool
@@ -74,12 +73,13 @@ pub(crate) fn is_skipped(words: &Words<'_>) -> bool
 
 impl<'a> Reader<'a> {
     ghost use Rattle.script_reader.specs.Lines.{State, start};
-    ghost use Rattle.script_reader.specs.Steps.{Gives};
-    ghost use Rattle.script_reader.specs.Sound.{IsInSection, MayFollow};
+    ghost use Rattle.script_reader.specs.Steps.{Moves};
+    ghost use Rattle.script_reader.specs.Sound.{IsSound, IsInSection, MayFollow};
 
     /// Before the first line.
     pub fn new(alloc: Global) -> Reader<'a>
-        ensures { result ≡ start }
+        ensures state { result ≡ start }
+        ensures sound { IsSound result }
     {
         let boot = Section {
             commands: Vec::new(alloc),
@@ -95,42 +95,48 @@ impl<'a> Reader<'a> {
     }
 
     #[tactic(auto, unfolding(crate::specs::Lines::head_step))]
-    fn head_line(mut self, words: &Words<'a>) -> Result<Reader<'a>, StepError>
-        requires { self.place ≡ Place.Head }
-        ensures value { Gives result (spec.head_step self.entry words.now) }
-        ensures grown { IfOk result (λ r. length r.section.commands ≤ length self.entry.section.commands + 1) }
+    fn head_line(&mut self, words: &Words<'a>) -> Result<(), StepError>
+        requires place { self.old.place ≡ Place.Head }
+        requires sound { IsSound self.old }
+        ensures value { Moves result self.new (spec.head_step self.old words.now) }
+        ensures sound { OnOk result (IsSound self.new) }
+        ensures grown { OnOk result (length self.new.section.commands ≤ length self.old.section.commands + 1) }
     {
         if !is_head(words) {
             return Err(StepError::Code(NO_HEAD));
         }
         self.place = Place::Units;
-        Ok(self)
+        Ok(())
     }
 
     #[tactic(auto, unfolding(crate::specs::Lines::unit_step))]
-    fn unit_line(mut self, words: &Words<'a>) -> Result<Reader<'a>, StepError>
-        requires place { self.place ≡ Place.Units }
-        requires few { length self.shapes < 4 }
-        ensures value { Gives result (spec.unit_step self.entry words.now) }
-        ensures grown { IfOk result (λ r. length r.section.commands ≤ length self.entry.section.commands + 1) }
+    fn unit_line(&mut self, words: &Words<'a>) -> Result<(), StepError>
+        requires place { self.old.place ≡ Place.Units }
+        requires few { length self.old.shapes < 4 }
+        requires sound { IsSound self.old }
+        ensures value { Moves result self.new (spec.unit_step self.old words.now) }
+        ensures sound { OnOk result (IsSound self.new) }
+        ensures grown { OnOk result (length self.new.section.commands ≤ length self.old.section.commands + 1) }
     {
         let shape = unit_shape(words)?;
         self.shapes.push(shape)?;
-        Ok(self)
+        Ok(())
     }
 
     #[tactic(auto, unfolding(crate::specs::Lines::boot_step))]
-    fn boot_line(mut self, words: &Words<'a>) -> Result<Reader<'a>, StepError>
-        requires place { self.place ≡ Place.Units }
-        requires some { 1 ≤ length self.shapes }
-        ensures value { Gives result (spec.boot_step self.entry words.now) }
-        ensures grown { IfOk result (λ r. length r.section.commands ≤ length self.entry.section.commands + 1) }
+    fn boot_line(&mut self, words: &Words<'a>) -> Result<(), StepError>
+        requires place { self.old.place ≡ Place.Units }
+        requires some { 1 ≤ length self.old.shapes }
+        requires sound { IsSound self.old }
+        ensures value { Moves result self.new (spec.boot_step self.old words.now) }
+        ensures sound { OnOk result (IsSound self.new) }
+        ensures grown { OnOk result (length self.new.section.commands ≤ length self.old.section.commands + 1) }
     {
         if words.len() != 1 {
             return Err(StepError::Code(MISSHAPEN));
         }
         self.place = Place::Boot;
-        Ok(self)
+        Ok(())
     }
 
     /// The number of the lane that would come next.
@@ -144,49 +150,33 @@ impl<'a> Reader<'a> {
     }
 
     /// The open section is whole, and another stands in its place.
-    fn close(self, alloc: Global, next: Place) -> Result<Reader<'a>, StepError>
-        requires in_section { IsInSection self.place }
-        requires room { length self.section.commands ≤ 4194304 }
-        requires next { MayFollow next self }
-        ensures value { Gives result (Ok (record (spec.closed self.entry.place self.entry) { place = next })) }
-        ensures grown { IfOk result (λ r. length r.section.commands ≤ length self.entry.section.commands + 1) }
+    fn close(&mut self, alloc: Global, next: Place) -> Result<(), StepError>
+        requires in_section { IsInSection self.old.place }
+        requires room { length self.old.section.commands ≤ 4194304 }
+        requires next { MayFollow next self.old }
+        requires sound { IsSound self.old }
+        ensures value { Moves result self.new (Ok (record (spec.closed self.old.place self.old) { place = next })) }
+        ensures sound { OnOk result (IsSound self.new) }
+        ensures grown { OnOk result (length self.new.section.commands ≤ length self.old.section.commands + 1) }
     {
-        let Reader {
-            place,
-            shapes,
-            boot,
-            mut lanes,
-            section,
-        } = self;
+        let section = mem::replace(&mut self.section, OpenSection::new(alloc));
         let whole = section.close();
-        let section = OpenSection::new(alloc);
-        match place {
-            Place::Lane => {
-                lanes.push(whole)?;
-                Ok(Reader {
-                    place: next,
-                    shapes,
-                    boot,
-                    lanes,
-                    section,
-                })
-            }
-            _ => Ok(Reader {
-                place: next,
-                shapes,
-                boot: whole,
-                lanes,
-                section,
-            }),
+        match self.place {
+            Place::Lane => self.lanes.push(whole)?,
+            _ => self.boot = whole,
         }
+        self.place = next;
+        Ok(())
     }
 
     #[tactic(auto, unfolding(crate::specs::Lines::end_step))]
-    fn end_line(self, alloc: Global, words: &Words<'a>) -> Result<Reader<'a>, StepError>
-        requires in_section { IsInSection self.place }
-        requires room { length self.section.commands ≤ 4194304 }
-        ensures value { Gives result (spec.end_step self.entry words.now) }
-        ensures grown { IfOk result (λ r. length r.section.commands ≤ length self.entry.section.commands + 1) }
+    fn end_line(&mut self, alloc: Global, words: &Words<'a>) -> Result<(), StepError>
+        requires in_section { IsInSection self.old.place }
+        requires room { length self.old.section.commands ≤ 4194304 }
+        requires sound { IsSound self.old }
+        ensures value { Moves result self.new (spec.end_step self.old words.now) }
+        ensures sound { OnOk result (IsSound self.new) }
+        ensures grown { OnOk result (length self.new.section.commands ≤ length self.old.section.commands + 1) }
     {
         if words.len() != 1 {
             return Err(StepError::Code(MISSHAPEN));
@@ -195,11 +185,13 @@ impl<'a> Reader<'a> {
     }
 
     #[tactic(auto, unfolding(crate::specs::Lines::lane_step))]
-    fn lane_line(self, alloc: Global, words: &Words<'a>) -> Result<Reader<'a>, StepError>
-        requires in_section { IsInSection self.place }
-        requires room { length self.section.commands ≤ 4194304 }
-        ensures value { Gives result (spec.lane_step self.entry words.now) }
-        ensures grown { IfOk result (λ r. length r.section.commands ≤ length self.entry.section.commands + 1) }
+    fn lane_line(&mut self, alloc: Global, words: &Words<'a>) -> Result<(), StepError>
+        requires in_section { IsInSection self.old.place }
+        requires room { length self.old.section.commands ≤ 4194304 }
+        requires sound { IsSound self.old }
+        ensures value { Moves result self.new (spec.lane_step self.old words.now) }
+        ensures sound { OnOk result (IsSound self.new) }
+        ensures grown { OnOk result (length self.new.section.commands ≤ length self.old.section.commands + 1) }
     {
         let next = self.next_lane();
         if 16 < next || is_other(next, words.word(1)) {
@@ -213,60 +205,38 @@ impl<'a> Reader<'a> {
     }
 
     #[tactic(auto, unfolding(crate::specs::Lines::submit_step))]
-    fn submit_line(self, words: &Words<'a>) -> Result<Reader<'a>, StepError>
-        requires in_section { IsInSection self.place }
-        requires room { length self.section.commands ≤ 4194304 }
-        ensures value { Gives result (spec.submit_step self.entry words.now) }
-        ensures grown { IfOk result (λ r. length r.section.commands ≤ length self.entry.section.commands + 1) }
+    fn submit_line(&mut self, words: &Words<'a>) -> Result<(), StepError>
+        requires in_section { IsInSection self.old.place }
+        requires room { length self.old.section.commands ≤ 4194304 }
+        requires sound { IsSound self.old }
+        ensures value { Moves result self.new (spec.submit_step self.old words.now) }
+        ensures sound { OnOk result (IsSound self.new) }
+        ensures grown { OnOk result (length self.new.section.commands ≤ length self.old.section.commands + 1) }
     {
-        let Reader {
-            place,
-            shapes,
-            boot,
-            lanes,
-            section,
-        } = self;
-        let slot = section.names.len() as u32;
-        let command = submit(shapes.len() as u8, slot, words)?;
-        let section = section.submit(command, words.word(7))?;
-        Ok(Reader {
-            place,
-            shapes,
-            boot,
-            lanes,
-            section,
-        })
+        let slot = self.section.names().len() as u32;
+        let command = submit(self.shapes.len() as u8, slot, words)?;
+        self.section.submit(command, words.word(7))
     }
 
     #[tactic(auto, unfolding(crate::specs::Lines::command_step))]
-    fn command_line(self, words: &Words<'a>) -> Result<Reader<'a>, StepError>
-        requires { IsInSection self.place }
-        ensures value { Gives result (spec.command_step self.entry words.now) }
-        ensures grown { IfOk result (λ r. length r.section.commands ≤ length self.entry.section.commands + 1) }
+    fn command_line(&mut self, words: &Words<'a>) -> Result<(), StepError>
+        requires in_section { IsInSection self.old.place }
+        requires sound { IsSound self.old }
+        ensures value { Moves result self.new (spec.command_step self.old words.now) }
+        ensures sound { OnOk result (IsSound self.new) }
+        ensures grown { OnOk result (length self.new.section.commands ≤ length self.old.section.commands + 1) }
     {
-        let Reader {
-            place,
-            shapes,
-            boot,
-            lanes,
-            section,
-        } = self;
-        let command = command(shapes.len() as u8, &section.names, words)?;
-        let section = section.push(command)?;
-        Ok(Reader {
-            place,
-            shapes,
-            boot,
-            lanes,
-            section,
-        })
+        let command = command(self.shapes.len() as u8, self.section.names(), words)?;
+        self.section.push(command)
     }
 
     #[tactic(auto, unfolding(crate::specs::Lines::units_step))]
-    fn units_line(self, words: &Words<'a>) -> Result<Reader<'a>, StepError>
-        requires { self.place ≡ Place.Units }
-        ensures value { Gives result (spec.units_step self.entry words.now) }
-        ensures grown { IfOk result (λ r. length r.section.commands ≤ length self.entry.section.commands + 1) }
+    fn units_line(&mut self, words: &Words<'a>) -> Result<(), StepError>
+        requires place { self.old.place ≡ Place.Units }
+        requires sound { IsSound self.old }
+        ensures value { Moves result self.new (spec.units_step self.old words.now) }
+        ensures sound { OnOk result (IsSound self.new) }
+        ensures grown { OnOk result (length self.new.section.commands ≤ length self.old.section.commands + 1) }
     {
         if words.is_word(0, b"unit") && self.shapes.len() < 4 {
             self.unit_line(words)
@@ -278,11 +248,13 @@ impl<'a> Reader<'a> {
     }
 
     #[tactic(auto, unfolding(crate::specs::Lines::section_step))]
-    fn section_line(self, alloc: Global, words: &Words<'a>) -> Result<Reader<'a>, StepError>
-        requires in_section { IsInSection self.place }
-        requires room { length self.section.commands ≤ 4194304 }
-        ensures value { Gives result (spec.section_step self.entry words.now) }
-        ensures grown { IfOk result (λ r. length r.section.commands ≤ length self.entry.section.commands + 1) }
+    fn section_line(&mut self, alloc: Global, words: &Words<'a>) -> Result<(), StepError>
+        requires in_section { IsInSection self.old.place }
+        requires room { length self.old.section.commands ≤ 4194304 }
+        requires sound { IsSound self.old }
+        ensures value { Moves result self.new (spec.section_step self.old words.now) }
+        ensures sound { OnOk result (IsSound self.new) }
+        ensures grown { OnOk result (length self.new.section.commands ≤ length self.old.section.commands + 1) }
     {
         if words.is_word(0, b"lane") {
             self.lane_line(alloc, words)
@@ -295,14 +267,12 @@ impl<'a> Reader<'a> {
         }
     }
 
-    pub(crate) fn placed_line(
-        self,
-        alloc: Global,
-        words: &Words<'a>,
-    ) -> Result<Reader<'a>, StepError>
-        requires { length self.section.commands ≤ 4194304 }
-        ensures value { Gives result (spec.place_step self.entry.place self.entry words.now) }
-        ensures grown { IfOk result (λ r. length r.section.commands ≤ length self.entry.section.commands + 1) }
+    pub(crate) fn placed_line(&mut self, alloc: Global, words: &Words<'a>) -> Result<(), StepError>
+        requires room { length self.old.section.commands ≤ 4194304 }
+        requires sound { IsSound self.old }
+        ensures value { Moves result self.new (spec.place_step self.old.place self.old words.now) }
+        ensures sound { OnOk result (IsSound self.new) }
+        ensures grown { OnOk result (length self.new.section.commands ≤ length self.old.section.commands + 1) }
     {
         match self.place {
             Place::Head => self.head_line(words),
@@ -313,28 +283,39 @@ impl<'a> Reader<'a> {
     }
 
     #[tactic(auto, unfolding(crate::specs::Lines::words_step))]
-    fn words_line(self, alloc: Global, words: &Words<'a>) -> Result<Reader<'a>, StepError>
-        requires { length self.section.commands ≤ 4194304 }
-        ensures value { Gives result (spec.words_step self.entry words.now) }
-        ensures grown { IfOk result (λ r. length r.section.commands ≤ length self.entry.section.commands + 1) }
+    fn words_line(&mut self, alloc: Global, words: &Words<'a>) -> Result<(), StepError>
+        requires room { length self.old.section.commands ≤ 4194304 }
+        requires sound { IsSound self.old }
+        ensures value { Moves result self.new (spec.words_step self.old words.now) }
+        ensures sound { OnOk result (IsSound self.new) }
+        ensures grown { OnOk result (length self.new.section.commands ≤ length self.old.section.commands + 1) }
     {
         if is_skipped(words) {
-            return Ok(self);
+            return Ok(());
         }
         self.placed_line(alloc, words)
     }
 
-    /// The state after one more line.
+    /// Reads one more line. `words` serves each line in turn, and `plain` tells that the line is known to be plain.
     #[tactic(auto, unfolding(crate::specs::Lines::line_step))]
-    pub fn line(self, alloc: Global, line: &'a [u8]) -> Result<Reader<'a>, StepError>
-        requires { length self.section.commands ≤ 4194304 }
-        ensures value { Gives result (spec.line_step self.entry line.entry.now) }
-        ensures grown { IfOk result (λ r. length r.section.commands ≤ length self.entry.section.commands + 1) }
+    pub fn line(
+        &mut self,
+        alloc: Global,
+        words: &mut Words<'a>,
+        line: &'a [u8],
+        plain: bool,
+    ) -> Result<(), StepError>
+        requires room { length self.old.section.commands ≤ 4194304 }
+        requires sound { IsSound self.old }
+        requires plain { plain ≡ true → IsPlainLine line.now }
+        ensures value { Moves result self.new (spec.line_step self.old line.entry.now) }
+        ensures sound { OnOk result (IsSound self.new) }
+        ensures grown { OnOk result (length self.new.section.commands ≤ length self.old.section.commands + 1) }
     {
-        if !text::is_plain_line(line) {
+        if !text::is_plain_line(line, plain) {
             return Err(StepError::Code(NOT_PLAIN));
         }
-        let words = Words::of(alloc, line)?;
-        self.words_line(alloc, &words)
+        words.read(line);
+        self.words_line(alloc, words)
     }
 }

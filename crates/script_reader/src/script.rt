@@ -3,11 +3,14 @@ ghost use Rattle.std.specs.Prelude.{◌≡◌, ◌+◌, ◌≤◌, ◌^◌, max,
 ghost use Rattle.std.specs.List.{AllByRecursion};
 ghost use Rattle.event_words.specs.Sections.{IsValidSection};
 ghost use Rattle.script_reader.specs.Scripts.{IsWellFormedScript, need_of, most_from, end_of, script_at};
+ghost use Rattle.script_reader.specs.Sound.{IsSound};
+ghost use Rattle.script_reader.specs.Canonical.{IsReadableScript, IsToldWholly};
 ghost use Rattle.script_reader.specs.Answers.{reading_of, refusal_of, Answers, Reads};
 
 use crate::reader::{Place, Reader};
 use crate::step::{MISPLACED, NO_HEAD, StepError};
-use crate::text;
+use crate::text::{self, Lines};
+use crate::words::Words;
 use event_words::{Section, Shape};
 use std::alloc::Global;
 use std::marker::Model;
@@ -76,10 +79,28 @@ impl Script {
     }
 }
 
+pub(crate) fn bad_line(line: u32, code: u8) -> ScriptError
+    ensures { result ≡ ScriptError.BadLine line code }
+{
+    ScriptError::BadLine { line, code }
+}
+
+/// Why a line refuses what is read.
+pub(crate) fn refusal(line: u32, error: StepError) -> ScriptError
+    ensures { result ≡ refusal_of line error }
+{
+    match error {
+        StepError::Code(code) => bad_line(line, code),
+        StepError::NoMemory => ScriptError::NoMemory,
+    }
+}
+
 // What the lines gave, where they are complete.
 fn finish(reader: Reader<'_>, line: u32) -> Result<Script, ScriptError>
+    requires { IsSound reader }
     ensures read { Reads result (end_of reader.entry.place reader.entry line) }
     ensures formed { IfOk result (λ s. IsWellFormedScript s) }
+    ensures whole { IfOk result (λ s. IsToldWholly s) }
 {
     let Reader {
         place,
@@ -89,14 +110,8 @@ fn finish(reader: Reader<'_>, line: u32) -> Result<Script, ScriptError>
         ..
     } = reader;
     match place {
-        Place::Head => Err(ScriptError::BadLine {
-            line,
-            code: NO_HEAD,
-        }),
-        Place::Units | Place::Boot | Place::Lane => Err(ScriptError::BadLine {
-            line,
-            code: MISPLACED,
-        }),
+        Place::Head => Err(bad_line(line, NO_HEAD)),
+        Place::Units | Place::Boot | Place::Lane => Err(bad_line(line, MISPLACED)),
         Place::Finished => Ok(Script {
             shapes,
             boot,
@@ -105,30 +120,21 @@ fn finish(reader: Reader<'_>, line: u32) -> Result<Script, ScriptError>
     }
 }
 
-pub(crate) fn at(line: u32, error: StepError) -> ScriptError
-    ensures { result ≡ refusal_of line error }
-{
-    match error {
-        StepError::Code(code) => ScriptError::BadLine { line, code },
-        StepError::NoMemory => ScriptError::NoMemory,
-    }
-}
-
 /// The script of all lines, or the first bad line.
 fn read_lines(alloc: Global, bytes: &[u8]) -> Result<Script, ScriptError>
     requires { length bytes.now ≤ 4194304 }
     ensures read { Reads result (script_at bytes.now) }
     ensures formed { IfOk result (λ s. IsWellFormedScript s) }
+    ensures whole { IfOk result (λ s. IsToldWholly s) }
 {
-    let Ok(lines) = text::lines(alloc, bytes) else {
-        return Err(ScriptError::NoMemory);
-    };
     let mut reader = Reader::new(alloc);
+    let plain = text::is_plain_text(bytes);
+    let mut words = Words::new();
+    let mut lines = Lines::of(bytes);
     let mut number = 1u32;
-    for line in &lines {
-        match reader.line(alloc, line) {
-            Ok(next) => reader = next,
-            Err(error) => return Err(at(number, error)),
+    while let Some(line) = lines.next() {
+        if let Err(error) = reader.line(alloc, &mut words, line, plain) {
+            return Err(refusal(number, error));
         }
         number += 1;
     }
@@ -142,6 +148,7 @@ pub fn read_script(alloc: Global, bytes: &[u8]) -> Result<Script, ScriptError>
     ensures answer { Answers result (reading_of bytes.now) }
     ensures formed { IfOk result (λ s. IsWellFormedScript s) }
     ensures few { IfOk result (λ s. need_of s ≤ 1048576) }
+    ensures readable { IfOk result (λ s. IsReadableScript s) }
 {
     let script = read_lines(alloc, bytes)?;
     let need = script.need();

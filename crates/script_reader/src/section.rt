@@ -1,7 +1,7 @@
 // A section whose commands are being read.
-ghost use Rattle.std.specs.Prelude.{◌≡◌, ◌+◌, ◌<◌, ◌^◌, ◌++◌, ◌∷◌, [], length, IfOk};
+ghost use Rattle.std.specs.Prelude.{◌≡◌, ◌<◌, ◌^◌, length};
 ghost use Rattle.script_reader.specs.Lines.{new_section, section_of, with_submission, with_command};
-ghost use Rattle.script_reader.specs.Steps.{Gives};
+ghost use Rattle.script_reader.specs.Steps.{Moves};
 
 use crate::name::Names;
 use crate::step::StepError;
@@ -9,11 +9,11 @@ use event_words::{Command, Section};
 use std::alloc::Global;
 use std::marker::Model;
 
-/// The commands so far, and the names of the submissions among them.
+/// The commands so far, and the names of the submissions among them. After a command that is refused it is of no more use.
 #[derive(Drop)]
 pub struct OpenSection<'a> {
-    pub commands: Vec<Command>,
-    pub names: Names<'a>,
+    commands: Vec<Command>,
+    names: Names<'a>,
 }
 
 impl<'a> Model for OpenSection<'a> {
@@ -35,32 +35,29 @@ impl<'a> OpenSection<'a> {
         }
     }
 
-    /// With a submission's name and command.
-    pub fn submit(self, command: Command, name: &'a [u8]) -> Result<OpenSection<'a>, StepError>
-        requires { length self.names < 2 ^ 32 }
-        ensures value { Gives result (with_submission self.entry command name.entry.now) }
-        ensures commands { IfOk result (λ s. s.commands ≡ self.entry.commands ++ command ∷ []) }
-        ensures names { IfOk result (λ s. length s.names ≡ length self.entry.names + 1) }
+    /// The names of the submissions so far.
+    pub fn names(&self) -> &Names<'a>
+        ensures { result.now ≡ self.now.names }
     {
-        let OpenSection {
-            mut commands,
-            names,
-        } = self;
-        let names = names.with(name)?;
-        commands.push(command)?;
-        Ok(OpenSection { commands, names })
+        &self.names
     }
 
-    /// With another command than a submission.
-    pub fn push(self, command: Command) -> Result<OpenSection<'a>, StepError>
-        ensures { Gives result (Ok (with_command self.entry command)) }
+    /// Adds a submission's name and command.
+    pub fn submit(&mut self, command: Command, name: &'a [u8]) -> Result<(), StepError>
+        requires { length self.old.names < 2 ^ 32 }
+        ensures { Moves result self.new (with_submission self.old command name.entry.now) }
     {
-        let OpenSection {
-            mut commands,
-            names,
-        } = self;
-        commands.push(command)?;
-        Ok(OpenSection { commands, names })
+        self.names.add(name)?;
+        self.commands.push(command)?;
+        Ok(())
+    }
+
+    /// Adds another command than a submission.
+    pub fn push(&mut self, command: Command) -> Result<(), StepError>
+        ensures { Moves result self.new (Ok (with_command self.old command)) }
+    {
+        self.commands.push(command)?;
+        Ok(())
     }
 
     /// The section as it stands.

@@ -1,15 +1,9 @@
-// The lines of a text and the words of a line.
-ghost use Rattle.std.specs.Prelude.{◌≡◌, ◌+◌, ◌≤◌, map, length, IfOk};
-ghost use Rattle.std.specs.List.{list_all, slice_split};
-ghost use Rattle.script_reader.specs.Text.{is_line_feed, is_blank, is_plain, has_bytes, lines_of, words_of};
+// The lines of a text, one after another.
+ghost use Rattle.std.specs.Prelude.{◌≡◌, ◌+◌, ◌≤◌, true, length, position};
+ghost use Rattle.std.specs.List.{list_all};
+ghost use Rattle.script_reader.specs.Text.{is_line_feed, is_plain, is_plain_or_feed, IsPlainLine, lines_of, Takes};
 
-use std::alloc::{AllocError, Global};
-
-fn is_blank_byte(byte: u8) -> bool
-    ensures { result ≡ is_blank byte }
-{
-    byte == b' ' || byte == b'\t' || byte == b'\r'
-}
+use std::marker::Model;
 
 fn is_plain_byte(byte: u8) -> bool
     ensures { result ≡ is_plain byte }
@@ -17,43 +11,83 @@ fn is_plain_byte(byte: u8) -> bool
     matches!(byte, b' '..=b'~' | b'\t' | b'\r')
 }
 
-/// Whether each byte may stand in a line.
-pub fn is_plain_line(line: &[u8]) -> bool
+fn is_plain_or_feed(byte: u8) -> bool
+    ensures { result ≡ is_plain_or_feed byte }
+{
+    is_plain_byte(byte) | (byte == b'\n')
+}
+
+/// Whether each line of a text is plain. All bytes are looked at, many at once.
+pub fn is_plain_text(text: &[u8]) -> bool
+    ensures { result ≡ list_all is_plain_or_feed text.now }
+{
+    let mut plain = true;
+    for byte in text {
+        plain &= is_plain_or_feed(*byte);
+    }
+    plain
+}
+
+fn are_plain_bytes(line: &[u8]) -> bool
     ensures { result ≡ list_all is_plain line.now }
 {
     line.iter().all(|b| is_plain_byte(*b))
 }
 
-fn parts(alloc: Global, text: &[u8]) -> Result<Vec<&[u8]>, AllocError>
-    ensures items { IfOk result (λ v. map (λ x. x.now) v.items ≡ slice_split is_line_feed text.now) }
-    ensures len { IfOk result (λ v. length v.items ≤ length text.now + 1) }
+/// Whether each byte may stand in a line. The bytes are looked at only where it isn't known that they may.
+pub fn is_plain_line(line: &[u8], known: bool) -> bool
+    requires { known ≡ true → IsPlainLine line.now }
+    ensures { result ≡ list_all is_plain line.now }
 {
-    text.split(|b| *b == b'\n').collect(alloc)
+    known || are_plain_bytes(line)
 }
 
-/// The lines of a text. The line feed of the last one may be missing.
-pub fn lines(alloc: Global, text: &[u8]) -> Result<Vec<&[u8]>, AllocError>
-    ensures items { IfOk result (λ v. map (λ x. x.now) v.items ≡ lines_of text.now) }
-    ensures len { IfOk result (λ v. length v.items ≤ length text.now + 1) }
+fn first_line_feed(text: &[u8]) -> Option<usize>
+    ensures { result ≡ position is_line_feed text.now }
 {
-    match text {
-        [] => Ok(Vec::new(alloc)),
-        [front @ .., b'\n'] => parts(alloc, front),
-        _ => parts(alloc, text),
+    text.iter().position(|b| *b == b'\n')
+}
+
+/// The lines of a text that are left.
+#[derive(Drop)]
+pub struct Lines<'a> {
+    rest: &'a [u8],
+}
+
+impl<'a> Model for Lines<'a> {
+    ghost use Rattle.std.specs.Prelude.{ℕ, List};
+    ghost use Rattle.script_reader.specs.Text.{lines_of};
+
+    ghost Value = { List (List ℕ) };
+
+    ghost view = { λ l. lines_of l.rest.now };
+}
+
+impl<'a> Lines<'a> {
+    /// The lines of a text. The line feed of the last one may be missing.
+    pub fn of(text: &'a [u8]) -> Lines<'a>
+        ensures { result ≡ lines_of text.entry.now }
+    {
+        Lines { rest: text }
     }
-}
 
-fn is_word(part: &[u8]) -> bool
-    ensures { result ≡ has_bytes part.now }
-{
-    !part.is_empty()
-}
-
-/// The words of a line.
-pub fn words(alloc: Global, line: &[u8]) -> Result<Vec<&[u8]>, AllocError>
-    ensures { IfOk result (λ v. map (λ x. x.now) v.items ≡ words_of line.now) }
-{
-    line.split(|b| is_blank_byte(*b))
-        .filter(|w| is_word(w))
-        .collect(alloc)
+    /// Takes the first line, without its line feed.
+    pub fn next(&mut self) -> Option<&'a [u8]>
+        ensures { Takes self.old self.new result }
+    {
+        let text = self.rest;
+        if text.is_empty() {
+            return None;
+        }
+        match first_line_feed(text) {
+            Some(end) => {
+                self.rest = &text[end + 1..];
+                Some(&text[..end])
+            }
+            None => {
+                self.rest = &[];
+                Some(text)
+            }
+        }
+    }
 }

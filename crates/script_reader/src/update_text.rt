@@ -1,5 +1,6 @@
 // Reads the input of a live update: its headings, and the lines between them.
 ghost use Rattle.std.specs.Prelude.{◌≡◌, ◌+◌, ◌≤◌, ◌<◌, ℕ, length, IfOk};
+ghost use Rattle.script_reader.specs.Text.{words_of};
 ghost use Rattle.script_reader.specs.Steps.{Gives};
 ghost use Rattle.script_reader.specs.Answers.{Reads};
 ghost use Rattle.script_reader.specs.UpdateTexts as spec;
@@ -7,9 +8,9 @@ ghost use Rattle.script_reader.specs.UpdateSizes.{FitsState, FitsWhole};
 
 use crate::number::number_within;
 use crate::reader::is_skipped;
-use crate::script::{ScriptError, at};
+use crate::script::{ScriptError, bad_line, refusal};
 use crate::step::{MISPLACED, NO_HEAD, NOT_PLAIN, StepError};
-use crate::text;
+use crate::text::{self, Lines};
 use crate::words::Words;
 use std::alloc::{AllocError, Global};
 use std::marker::Model;
@@ -93,28 +94,28 @@ fn wants(wanted: Wanted, text: UpdateText) -> Result<UpdateReader, StepError>
 }
 
 #[tactic(auto, unfolding(crate::specs::UpdateTexts::old_step))]
-fn old_line(alloc: Global, text: UpdateText, line: &[u8]) -> Result<UpdateReader, StepError>
+fn old_line(text: UpdateText, words: &Words<'_>, line: &[u8]) -> Result<UpdateReader, StepError>
+    requires { words.now ≡ words_of line.now }
     ensures { Gives result (spec.old_step text line.now) }
 {
-    if !text::is_plain_line(line) {
+    if !text::is_plain_line(line, false) {
         return Err(StepError::Code(NOT_PLAIN));
     }
-    let words = Words::of(alloc, line)?;
-    if is_skipped(&words) {
+    if is_skipped(words) {
         return wants(Wanted::Old, text);
     }
-    if !is_heading(&words, b"old") {
+    if !is_heading(words, b"old") {
         return Err(StepError::Code(NO_HEAD));
     }
     wants(Wanted::New, text)
 }
 
 #[tactic(auto, unfolding(crate::specs::UpdateTexts::new_step))]
-fn new_line(alloc: Global, mut text: UpdateText, line: &[u8]) -> Result<UpdateReader, StepError>
+fn new_line(mut text: UpdateText, words: &Words<'_>, line: &[u8]) -> Result<UpdateReader, StepError>
+    requires { words.now ≡ words_of line.now }
     ensures { Gives result (spec.new_step text line.now) }
 {
-    let words = Words::of(alloc, line)?;
-    if is_heading(&words, b"new") {
+    if is_heading(words, b"new") {
         return wants(Wanted::Polls, text);
     }
     add_line(&mut text.old, line)?;
@@ -123,19 +124,19 @@ fn new_line(alloc: Global, mut text: UpdateText, line: &[u8]) -> Result<UpdateRe
 
 #[tactic(auto, unfolding(crate::specs::UpdateTexts::polls_step))]
 fn polls_line(
-    alloc: Global,
     after: Wanted,
     mut text: UpdateText,
+    words: &Words<'_>,
     line: &[u8],
 ) -> Result<UpdateReader, StepError>
+    requires { words.now ≡ words_of line.now }
     ensures { Gives result (spec.polls_step after text line.now) }
 {
-    let words = Words::of(alloc, line)?;
-    if !is_polls_heading(&words) {
+    if !is_polls_heading(words) {
         add_line(&mut text.new, line)?;
         return wants(Wanted::Polls, text);
     }
-    if !text::is_plain_line(line) {
+    if !text::is_plain_line(line, false) {
         return Err(StepError::Code(NOT_PLAIN));
     }
     text.polls = number_within(words.word(2), 1, 4096)? as u32;
@@ -144,22 +145,22 @@ fn polls_line(
 
 #[tactic(auto, unfolding(crate::specs::UpdateTexts::lanes_step))]
 fn lanes_line(
-    alloc: Global,
     mut text: UpdateText,
     number: u32,
+    words: &Words<'_>,
     line: &[u8],
 ) -> Result<UpdateReader, StepError>
-    requires { number ≤ 4194305 }
+    requires number { number ≤ 4194305 }
+    requires words { words.now ≡ words_of line.now }
     ensures { Gives result (spec.lanes_step text number line.now) }
 {
-    if !text::is_plain_line(line) {
+    if !text::is_plain_line(line, false) {
         return Err(StepError::Code(NOT_PLAIN));
     }
-    let words = Words::of(alloc, line)?;
-    if is_skipped(&words) {
+    if is_skipped(words) {
         return wants(Wanted::Lanes, text);
     }
-    if !is_heading(&words, b"lanes") {
+    if !is_heading(words, b"lanes") {
         return Err(StepError::Code(MISPLACED));
     }
     text.first_line = number + 1;
@@ -167,14 +168,14 @@ fn lanes_line(
 }
 
 #[tactic(auto, unfolding(crate::specs::UpdateTexts::nothing_step))]
-fn last_line(alloc: Global, text: UpdateText, line: &[u8]) -> Result<UpdateReader, StepError>
+fn last_line(text: UpdateText, words: &Words<'_>, line: &[u8]) -> Result<UpdateReader, StepError>
+    requires { words.now ≡ words_of line.now }
     ensures { Gives result (spec.nothing_step text line.now) }
 {
-    if !text::is_plain_line(line) {
+    if !text::is_plain_line(line, false) {
         return Err(StepError::Code(NOT_PLAIN));
     }
-    let words = Words::of(alloc, line)?;
-    if !is_skipped(&words) {
+    if !is_skipped(words) {
         return Err(StepError::Code(MISPLACED));
     }
     wants(Wanted::Nothing, text)
@@ -204,24 +205,25 @@ impl UpdateReader {
         }
     }
 
-    /// The state after one more line. `after` is wanted after the number of polls.
+    /// The state after one more line, whose words these are. `after` is wanted after the number of polls.
     fn line(
         self,
-        alloc: Global,
         after: Wanted,
         number: u32,
+        words: &Words<'_>,
         line: &[u8],
     ) -> Result<UpdateReader, StepError>
-        requires { number ≤ 4194305 }
+        requires number { number ≤ 4194305 }
+        requires words { words.now ≡ words_of line.now }
         ensures { Gives result (spec.update_step after self number line.now) }
     {
         let UpdateReader { wanted, text } = self;
         match wanted {
-            Wanted::Old => old_line(alloc, text, line),
-            Wanted::New => new_line(alloc, text, line),
-            Wanted::Polls => polls_line(alloc, after, text, line),
-            Wanted::Lanes => lanes_line(alloc, text, number, line),
-            Wanted::Nothing => last_line(alloc, text, line),
+            Wanted::Old => old_line(text, words, line),
+            Wanted::New => new_line(text, words, line),
+            Wanted::Polls => polls_line(after, text, words, line),
+            Wanted::Lanes => lanes_line(text, number, words, line),
+            Wanted::Nothing => last_line(text, words, line),
             Wanted::Rest => rest_line(text, line),
         }
     }
@@ -235,14 +237,8 @@ fn finish(reader: UpdateReader, line: u32) -> Result<UpdateText, ScriptError>
     let UpdateReader { wanted, text } = reader;
     match wanted {
         Wanted::Nothing | Wanted::Rest => Ok(text),
-        Wanted::Old => Err(ScriptError::BadLine {
-            line,
-            code: NO_HEAD,
-        }),
-        Wanted::New | Wanted::Polls | Wanted::Lanes => Err(ScriptError::BadLine {
-            line,
-            code: MISPLACED,
-        }),
+        Wanted::Old => Err(bad_line(line, NO_HEAD)),
+        Wanted::New | Wanted::Polls | Wanted::Lanes => Err(bad_line(line, MISPLACED)),
     }
 }
 
@@ -265,16 +261,16 @@ pub fn read_update(alloc: Global, bytes: &[u8], with_lanes: bool) -> Result<Upda
     ensures polls { IfOk result (λ t. (1 ≤ t.polls) × (t.polls ≤ 4096)) }
     ensures lanes { IfOk result (λ t. (length t.lanes ≤ 4194304) × (t.first_line ≤ 4194304)) }
 {
-    let Ok(lines) = text::lines(alloc, bytes) else {
-        return Err(ScriptError::NoMemory);
-    };
     let after = after_polls(with_lanes);
     let mut reader = UpdateReader::new(alloc);
+    let mut words = Words::new();
+    let mut lines = Lines::of(bytes);
     let mut number = 1u32;
-    for line in &lines {
-        match reader.line(alloc, after, number, line) {
+    while let Some(line) = lines.next() {
+        words.read(line);
+        match reader.line(after, number, &words, line) {
             Ok(next) => reader = next,
-            Err(error) => return Err(at(number, error)),
+            Err(error) => return Err(refusal(number, error)),
         }
         number += 1;
     }

@@ -3,68 +3,84 @@
 //! The flags are computed at a write of MDSTALL or RRIDSCP, and follow no later write of the tables.
 #![tactic(auto)]
 
-ghost use Rattle.std.specs.Prelude.{◌≡◌, ◌&&◌, ℕ, Bool, false, ◌+◌, ◌-◌, ◌*◌, ◌^◌, ◌<◌, ◌≤◌, List, length, map, replicate, take, slice_index, slice_set};
+ghost use Rattle.std.specs.Prelude.{◌≡◌, ◌==◌, ◌&&◌, ℕ, Bool, false, not, ◌+◌, ◌-◌, ◌*◌, ◌^◌, ◌<◌, ◌≤◌, List, length, map, replicate, take, slice_index, slice_set};
 ghost use Rattle.std.specs.List.{range_with_len, list_any};
 ghost use Rattle.event_words.specs.Registers.{has_bit};
 ghost use Rattle.event_words.specs.Domains.{is_associated};
-ghost use Rattle.event_words.specs.Stalls.{flag_of, is_selected, differs, flags_after_mdstall, flags_after_rridscp};
-ghost use Rattle.stall_control.specs.Counts.{Stalls, count_in, more_at, less_at, is_busy_at, none_stalled, is_busy_with};
+ghost use Rattle.event_words.specs.Stalls.{flag_of, is_selected_domain, is_selected, differs, flags_after_mdstall, flags_after_rridscp};
+ghost use Rattle.stall_control.specs.Counts.{Stalls, count_in, more_at, less_at, is_busy_at, none_stalled, is_busy_with, busy_count, one};
+ghost use Rattle.stall_control.specs.Selections.{is_among};
 
-use register_fields::{Regs, has_bit};
-use srcmd_formats::{domains_of, has_domain};
+use event_words::{Register, Shape};
+use register_fields::{Regs, has_bit, joined};
+use srcmd_formats::known_domains_of;
 use std::marker::Model;
 
 /// Of each requester that the unit knows, whether it is stalled, and the number of its transactions in
-/// flight. Contracts see it as these two lists.
+/// flight. Contracts see it as these two lists. Beside them it keeps how many requesters are stalled and
+/// have something in flight.
 #[derive(Drop)]
 pub struct StallState {
     rrids: u8,
     flags: [bool; 64],
     counts: [u32; 64],
+    waiting: u8,
 }
 
 impl Model for StallState {
-    ghost use Rattle.std.specs.Prelude.{◌≤◌, take};
-    ghost use Rattle.stall_control.specs.Counts.{Stalls};
+    ghost use Rattle.std.specs.Prelude.{◌≡◌, ◌≤◌, take};
+    ghost use Rattle.stall_control.specs.Counts.{Stalls, busy_count};
 
     ghost Value = { Stalls };
 
     ghost view = { λ s. record { flags = take s.rrids s.flags; counts = take s.rrids s.counts } };
 
-    ghost invariant = { λ s. s.rrids ≤ 64 };
+    ghost invariant = { λ s. (s.rrids ≤ 64) × (s.waiting ≡ busy_count (take s.rrids s.flags) (take s.rrids s.counts)) };
 }
 
-/// Whether a domain is among those that a write of MDSTALL selects and those of a mask.
-fn is_selected_by(value: u32, mask: u64, domain: u8) -> bool
-    requires { domain < 31 }
-    ensures { result ≡ has_bit value (domain + 1) && has_bit mask domain }
+/// The domains that a write of MDSTALL selects, as a mask that has bit m for domain m: up to 30 by bit
+/// m + 1 of the written value, from 31 on by bit m - 31 of MDSTALLH.
+fn selection(regs: &Regs, value: u32) -> u64
+    ensures { (m : ℕ) → has_bit result m ≡ is_selected_domain regs.now value m }
 {
-    has_bit(value, domain as u32 + 1) && has_domain(mask, domain)
+    joined(value, regs.word(Register::Mdstallh)) >> 1
 }
 
-/// Whether the requester is associated with a domain that a write of MDSTALL selects.
-fn is_selected(regs: &Regs, value: u32, rrid: u8) -> bool
-    ensures { result ≡ is_selected regs.now value rrid }
+/// Whether the requester, which is known, is associated with a domain of a mask.
+fn is_among(regs: &Regs, shape: &Shape, domains: u64, rrid: u8) -> bool
+    requires shape { shape.now ≡ regs.now.shape }
+    requires rrid { rrid < regs.now.shape.rrids }
+    ensures { result ≡ is_among regs.now domains rrid }
 {
-    let mask = domains_of(regs, rrid);
-    let shape = regs.shape();
-    for domain in 0..shape.domains {
-        if is_selected_by(value, mask, domain) {
-            return true;
-        }
-    }
-    false
+    domains & known_domains_of(regs, shape, rrid) != 0
 }
 
-/// Sets each flag where bit 0 of a write of MDSTALL, exempt, differs from being selected.
-fn set_flags(regs: &Regs, value: u32, flags: &mut [bool])
-    requires { length flags.old ≤ 64 }
-    ensures { flags.new ≡ map (λ s. differs (has_bit value 0) (is_selected regs.now value s)) (range_with_len 0 (length flags.old)) }
+/// 1 for a requester that is stalled and has a transaction in flight, else 0.
+fn waiting_at(stalled: bool, count: u32) -> u8
+    ensures value { result ≡ one (stalled && not (count == 0)) }
+    ensures small { result ≤ 1 }
+{
+    (stalled && count != 0) as u8
+}
+
+/// Sets the flag of each requester where bit 0 of a write of MDSTALL, exempt, differs from being
+/// selected. Answers how many requesters are then stalled and have a transaction in flight.
+fn set_flags(regs: &Regs, value: u32, flags: &mut [bool], counts: &[u32]) -> u8
+    requires rrids { length flags.old ≡ regs.now.shape.rrids }
+    requires len { length counts.now ≡ regs.now.shape.rrids }
+    ensures flags { flags.new ≡ flags_after_mdstall regs.now value }
+    ensures busy { result ≡ busy_count (flags_after_mdstall regs.now value) counts.now }
 {
     let exempt = has_bit(value, 0);
+    let domains = selection(regs, value);
+    let shape = *regs.shape();
+    let mut waiting = 0;
     for rrid in 0..flags.len() {
-        flags[rrid] = exempt != is_selected(regs, value, rrid as u8);
+        let stalled = exempt != is_among(regs, &shape, domains, rrid as u8);
+        flags[rrid] = stalled;
+        waiting += waiting_at(stalled, counts[rrid]);
     }
+    waiting
 }
 
 /// Sets or clears one flag by a write of RRIDSCP, whose bits 31:30 are the operation.
@@ -109,12 +125,17 @@ fn is_busy_at(flags: &[bool], counts: &[u32], rrid: usize) -> bool
     rrid < flags.len() && flags[rrid] && counts[rrid] != 0
 }
 
-/// Whether some requester is so.
-fn is_busy_with(flags: &[bool], counts: &[u32]) -> bool
-    requires { length flags.now ≡ length counts.now }
-    ensures { result ≡ is_busy_with flags.now counts.now }
+/// The number where one requester may have changed.
+fn changed(waiting: u8, was: bool, now: bool) -> u8
+    requires few { waiting ≤ 64 }
+    requires some { one was ≤ waiting + one now }
+    ensures { result + one was ≡ waiting + one now }
 {
-    (0..flags.len()).any(|rrid| is_busy_at(flags, counts, rrid))
+    match (was, now) {
+        (false, true) => waiting + 1,
+        (true, false) => waiting - 1,
+        _ => waiting,
+    }
 }
 
 impl StallState {
@@ -127,19 +148,22 @@ impl StallState {
             rrids,
             flags: [false; 64],
             counts: [0; 64],
+            waiting: 0,
         }
     }
 
     /// The flags after a write of `value` to MDSTALL, in a unit that knows as many requesters. Bit 0 is
-    /// exempt, and bit m + 1 selects domain m. A requester is then stalled exactly where exempt differs
-    /// from "it is associated with a selected domain", under the tables of this moment. Counts stay.
+    /// exempt. Bit m + 1 selects domain m for m up to 30, and bit m - 31 of MDSTALLH, as it was written
+    /// before, domain m from 31 on. A requester is then stalled exactly where exempt differs from "it is
+    /// associated with a selected domain", under the tables of this moment. Counts stay.
     pub fn after_mdstall(&mut self, regs: &Regs, value: u32)
         requires { length self.old.flags ≡ regs.now.shape.rrids }
         ensures flags { self.new.flags ≡ flags_after_mdstall regs.now value }
         ensures counts { self.new.counts ≡ self.old.counts }
     {
         let rrids = self.rrids as usize;
-        set_flags(regs, value, &mut self.flags[..rrids]);
+        let counts = self.counts;
+        self.waiting = set_flags(regs, value, &mut self.flags[..rrids], &counts[..rrids]);
     }
 
     /// The flags after a write of `value` to RRIDSCP, in a unit that knows as many requesters. Bits
@@ -152,7 +176,18 @@ impl StallState {
     {
         let _ = regs;
         let rrids = self.rrids as usize;
+        let was = is_busy_at(
+            &self.flags[..rrids],
+            &self.counts[..rrids],
+            (value % 65536) as usize,
+        );
         set_flag(&mut self.flags[..rrids], value);
+        let now = is_busy_at(
+            &self.flags[..rrids],
+            &self.counts[..rrids],
+            (value % 65536) as usize,
+        );
+        self.waiting = changed(self.waiting, was, now);
     }
 
     /// Whether the requester is stalled. One that isn't known never is.
@@ -170,7 +205,10 @@ impl StallState {
         ensures counts { self.new.counts ≡ more_at self.old.counts rrid }
     {
         let rrids = self.rrids as usize;
+        let was = is_busy_at(&self.flags[..rrids], &self.counts[..rrids], rrid as usize);
         more_at(&mut self.counts[..rrids], rrid);
+        let now = is_busy_at(&self.flags[..rrids], &self.counts[..rrids], rrid as usize);
+        self.waiting = changed(self.waiting, was, now);
     }
 
     /// One fewer is, of which some were. Of a requester that isn't known nothing is counted. All else
@@ -181,14 +219,16 @@ impl StallState {
         ensures counts { self.new.counts ≡ less_at self.old.counts rrid }
     {
         let rrids = self.rrids as usize;
+        let was = is_busy_at(&self.flags[..rrids], &self.counts[..rrids], rrid as usize);
         less_at(&mut self.counts[..rrids], rrid);
+        let now = is_busy_at(&self.flags[..rrids], &self.counts[..rrids], rrid as usize);
+        self.waiting = changed(self.waiting, was, now);
     }
 
     /// Whether some stalled requester has a transaction in flight.
     pub fn busy(&self) -> bool
         ensures { result ≡ is_busy_with self.now.flags self.now.counts }
     {
-        let rrids = self.rrids as usize;
-        is_busy_with(&self.flags[..rrids], &self.counts[..rrids])
+        self.waiting != 0
     }
 }

@@ -14,10 +14,11 @@ use Rattle.stall_queue.specs.Queues.{is_of}
 use Rattle.std.proofs.lemmas.List.FromFn.{length-map-range_with_len}
 use Rattle.unit_core.specs.declared.Submission.{Submission}
 use Rattle.unit_core.specs.declared.parts.UnitParts.{UnitParts}
+use Rattle.unit_core.specs.declared.places.Kept.{Kept}
 use Rattle.unit_core.specs.Submissions.{released_item}
 use Rattle.unit_core.specs.Places.{IsHeldBack}
 use Rattle.unit_core.specs.Units.{read_value, after_write}
-use Rattle.unit_core.specs.Parts.{part_read, IsWritten, stays_until, moved_for}
+use Rattle.unit_core.specs.Parts.{part_read, IsHeld, IsWritten, stays_until, moved_for}
 use Rattle.unit_core.specs.Places.{items_of, waiting_of, Agrees, state_with, state_of}
 use Rattle.unit_core.proofs.Lists.{by_test}
 use Rattle.unit_core.proofs.Busy.{flag_known, busy_same}
@@ -57,6 +58,12 @@ known_pairs flags [] h = tt
 known_pairs flags (x ∷ xs) h = by_test x.queued _
     (λ t. rw t (flag_known flags x.access.rrid (h.0 t), known_pairs flags xs h.1))
     (λ f. rw f (known_pairs flags xs h.1))
+
+pub held_pairs : (flags : List Bool) (xs : List Submission) → AllByRecursion (IsHeldBack flags) xs → AllByRecursion (IsHeld flags) (waiting_of xs)
+held_pairs flags [] h = tt
+held_pairs flags (x ∷ xs) h = by_test x.queued _
+    (λ t. rw t (h.0 t, held_pairs flags xs h.1))
+    (λ f. rw f (held_pairs flags xs h.1))
 
 stays_known : (flags : List Bool) (k : ℕ) (xs : List Waiting) → AllByRecursion (λ (w : Waiting). w.rrid < k) xs → filter (stays_until flags k) xs ≡ filter (λ (w : Waiting). flag_of flags w.rrid) xs
 stays_known flags k [] h = refl
@@ -113,7 +120,7 @@ written_tied x y items index value t w =
 pub written_state : (x y : UnitParts) (items : List Submission) (index value : ℕ) → IsWritten x y index value → state_with y (new_items y items) ≡ after_write (state_with x items) index value
 written_state x y items index value w = rw (w.regs, w.released.flags) refl
 
-pub sim_write : (u : ℕ) (x y : UnitParts) (ws : List ℕ) (index value : ℕ) → Agrees x (items_of u x.queue.items ws) → IsWritten x y index value
+pub sim_write : (u : ℕ) (x y : UnitParts) (ws : List Kept) (index value : ℕ) → Agrees x (items_of u x.queue.items ws) → IsWritten x y index value
     → Agrees y (items_of u y.queue.items ws) × (state_of u y ws ≡ after_write (state_of u x ws) index value)
 sim_write u x y ws index value t w =
     let e : items_of u y.queue.items ws ≡ new_items y (items_of u x.queue.items ws) = ap (λ q. items_of u q ws) (written_queue x y _ index value t w) ∙ items_released u x.queue.items ws y.stall.flags t.queue in (

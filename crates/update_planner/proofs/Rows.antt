@@ -49,6 +49,13 @@ fewer_pages :
 unfolding lib.Count.count_trailing_zeros lib.Count.ones is_single rule_entries permissions member_writes writes_of image_of rewrites plan_commands
 fewer_pages = refl
 
+-- in a unit of 40 domains the high register comes right after its low one
+many_domains :
+    planned (policy_of 40 1 [] (page 0x80000000 1 ∷ [])) (policy_of 40 1 [] (page 0x80000000 3 ∷ []))
+    ≡ Write 0 12 1 ∷ Until 0 12 1 0 8 ∷ Write 0 4 0 ∷ Write 0 512 1 ∷ Write 0 1024 2 ∷ Write 0 1025 0 ∷ Write 0 2048 0x200001ff ∷ Write 0 2049 0 ∷ Write 0 2050 0x1b ∷ Write 0 12 0 ∷ []
+unfolding lib.Count.count_trailing_zeros lib.Count.ones is_single rule_entries permissions member_writes writes_of image_of rewrites plan_commands
+many_domains = refl
+
 -- a unit with an entry more, where both need too much
 differing_units : plan_refusal (policy_of 1 1 (page 0 1 ∷ []) (page 0 1 ∷ [])) (policy_of 1 2 (page 0 1 ∷ []) (page 0 1 ∷ [])) ≡ Some (ShapesDiffer 2)
 unfolding lib.Count.count_trailing_zeros lib.Count.ones is_single rule_need need_domains need_entries need_refusal plan_refusal

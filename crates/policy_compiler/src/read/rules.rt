@@ -36,9 +36,9 @@ pub fn is_single(from: u64, size: u64) -> bool
 #[tactic(auto, unfolding(crate::specs::Rules::from_in))]
 fn from(path: Path, value: &Value) -> Result<u64, Fault>
     ensures value { result ≡ from_in path (view value.now) }
-    ensures good { IfOk result (λ n. (n % 4 ≡ 0) × (n ≤ 2 ^ 40)) }
+    ensures good { IfOk result (λ n. (n % 4 ≡ 0) × (n ≤ 2 ^ 52)) }
 {
-    let n = tables::number(path, 0, (1 << 40) - 4, value)?;
+    let n = tables::number(path, 0, (1 << 52) - 4, value)?;
     if n % 4 == 0 {
         Ok(n)
     } else {
@@ -48,16 +48,16 @@ fn from(path: Path, value: &Value) -> Result<u64, Fault>
 
 #[tactic(auto, unfolding(crate::specs::Rules::size_in))]
 fn size(path: Path, from: u64, value: &Value) -> Result<u64, Fault>
-    requires { from ≤ 2 ^ 40 }
+    requires { from ≤ 2 ^ 52 }
     ensures value { result ≡ size_in path from (view value.now) }
-    ensures good { IfOk result (λ n. (n % 4 ≡ 0) × (4 ≤ n) × (from + n ≤ 2 ^ 40)) }
-    ensures top { IfOk result (λ n. IsTrue (is_single from n || nat_lt (from + n) (2 ^ 40))) }
+    ensures good { IfOk result (λ n. (n % 4 ≡ 0) × (4 ≤ n) × (from + n ≤ 2 ^ 52)) }
+    ensures top { IfOk result (λ n. IsTrue (is_single from n || nat_lt (from + n) (2 ^ 52))) }
 {
-    let n = tables::number(path, 4, (1 << 40) - from, value)?;
+    let n = tables::number(path, 4, (1 << 52) - from, value)?;
     if n % 4 != 0 {
         return Err(Fault::Range { path });
     }
-    if is_single(from, n) || from + n < 1 << 40 {
+    if is_single(from, n) || from + n < 1 << 52 {
         Ok(n)
     } else {
         Err(Fault::Range { path })
@@ -106,7 +106,7 @@ fn rights(path: Path, value: &Value) -> Result<Rights, Fault>
 
 fn from_at(part: Part, table: &Table) -> Result<u64, Fault>
     ensures value { result ≡ required (path_of part 12) (from_in (path_of part 12)) (get_member (codes "from") (table_view table.now)) }
-    ensures good { IfOk result (λ n. (n % 4 ≡ 0) × (n ≤ 2 ^ 40)) }
+    ensures good { IfOk result (λ n. (n % 4 ≡ 0) × (n ≤ 2 ^ 52)) }
 {
     let path = Path { part, key: 12 };
     match tables::value_at(table, "from") {
@@ -116,10 +116,10 @@ fn from_at(part: Part, table: &Table) -> Result<u64, Fault>
 }
 
 fn size_at(part: Part, from: u64, table: &Table) -> Result<u64, Fault>
-    requires { from ≤ 2 ^ 40 }
+    requires { from ≤ 2 ^ 52 }
     ensures value { result ≡ required (path_of part 13) (size_in (path_of part 13) from) (get_member (codes "size") (table_view table.now)) }
-    ensures good { IfOk result (λ n. (n % 4 ≡ 0) × (4 ≤ n) × (from + n ≤ 2 ^ 40)) }
-    ensures top { IfOk result (λ n. IsTrue (is_single from n || nat_lt (from + n) (2 ^ 40))) }
+    ensures good { IfOk result (λ n. (n % 4 ≡ 0) × (4 ≤ n) × (from + n ≤ 2 ^ 52)) }
+    ensures top { IfOk result (λ n. IsTrue (is_single from n || nat_lt (from + n) (2 ^ 52))) }
 {
     let path = Path { part, key: 13 };
     match tables::value_at(table, "size") {

@@ -28,18 +28,19 @@ fn unit_number(key: u8, most: u64, value: Option<&Value>) -> Result<u64, Fault>
     }
 }
 
+/// SRCMD format 0, or 2 where there are at most 32 requesters.
 #[tactic(auto, unfolding(crate::specs::Reading::srcmd_in))]
 fn srcmd(rrids: u8, value: &Value) -> Result<u8, Fault>
     ensures value { result ≡ srcmd_in rrids (view value.now) }
     ensures formats { IfOk result (λ n. IsTrue ((n == 0) || (n == 2))) }
-    ensures room { IfOk result (λ n. n ≡ 2 → rrids ≤ 16) }
+    ensures room { IfOk result (λ n. n ≡ 2 → rrids ≤ 32) }
 {
     let path = Path {
         part: Part::Unit,
         key: 6,
     };
     let n = tables::number(path, 0, 2, value)?;
-    if n == 0 || n == 2 && rrids <= 16 {
+    if n == 0 || n == 2 && rrids <= 32 {
         Ok(n as u8)
     } else {
         Err(Fault::Range { path })
@@ -49,7 +50,7 @@ fn srcmd(rrids: u8, value: &Value) -> Result<u8, Fault>
 fn srcmd_at(rrids: u8, table: &Table) -> Result<u8, Fault>
     ensures value { result ≡ optional 0 (srcmd_in rrids) (get_member (codes "srcmd") (table_view table.now)) }
     ensures formats { IfOk result (λ n. IsTrue ((n == 0) || (n == 2))) }
-    ensures room { IfOk result (λ n. n ≡ 2 → rrids ≤ 16) }
+    ensures room { IfOk result (λ n. n ≡ 2 → rrids ≤ 32) }
 {
     match tables::value_at(table, "srcmd") {
         None => Ok(0),
@@ -75,7 +76,7 @@ fn transl_at(table: &Table) -> Result<Option<u8>, Fault>
     }
 }
 
-/// The unit of a policy.
+/// The unit of a policy: 1 to 64 requesters, 1 to 63 domains, 1 to 1024 entries.
 #[tactic(auto, unfolding(crate::specs::Reading::unit_at))]
 pub fn unit_at(table: &Table) -> Result<Shape, Fault>
     ensures value { result ≡ unit_at (table_view table.now) }
@@ -83,7 +84,7 @@ pub fn unit_at(table: &Table) -> Result<Shape, Fault>
 {
     tables::keys(Part::Unit, table)?;
     let rrids = unit_number(3, 64, tables::value_at(table, "rrids"))? as u8;
-    let domains = unit_number(4, 31, tables::value_at(table, "domains"))? as u8;
+    let domains = unit_number(4, 63, tables::value_at(table, "domains"))? as u8;
     let entries = unit_number(5, 1024, tables::value_at(table, "entries"))? as u16;
     let srcmd = srcmd_at(rrids, table)?;
     let queue = unit_number(7, 64, tables::value_at(table, "queue"))? as u8;

@@ -1,5 +1,6 @@
 use Rattle.std.proofs.Common.{◌≡◌, ◌≤◌, ◌+◌, ◌*◌, ℕ, length, get_or, subst, arith}
 use Rattle.event_words.specs.declared.access.Access.{Access}
+use Rattle.event_words.specs.Sections.{submission_events}
 use Rattle.cascade_path.specs.declared.chain.ChainReply.{ChainReply}
 use Rattle.cascade_path.specs.Stages.{PassesStage}
 use Rattle.cascade_path.proofs.Making.{belongs_still}
@@ -20,7 +21,7 @@ pass_stage-requires-clause-belongs g c =
 pub pass_stage-requires-clause-left : goal.pass_stage-requires-clause-left
 pass_stage-requires-clause-left g c =
     let b = c.loop-stage.invariant.0 in
-    let n : ℕ = 1 + c.args.tries in
+    let n : ℕ = submission_events c.args.access + c.args.tries in
     let few : length b.made ≤ c.loop-stage.stage * n = b.few in
     let left : c.loop-stage.caller.left + length b.made ≡ c.args.caller.now.left = b.adds.left in
     let all : length c.args.stages.now * n ≤ c.args.caller.now.left = c.requires.left in

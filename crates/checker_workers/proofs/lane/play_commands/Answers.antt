@@ -1,5 +1,7 @@
+use Rattle.std.proofs.Common.{arith}
 use Rattle.event_words.specs.declared.section.Command.TheVariants.{Write}
 use Rattle.checker_workers.proofs.Playing.{playing_none, playing_next, playing_stopped, playing_done, next_command, goes_as}
+use Rattle.checker_workers.proofs.Resting.{rests_first, rests_after}
 use Rattle.checker_workers.proofs.lane.play_commands.Goals as goal
 
 pub loop-command-init : goal.loop-command-init
@@ -25,3 +27,23 @@ loop-command-preserved g c = record {
 
 pub returns : goal.returns
 returns g c = playing_done c.args.port.now c.loop-command.port c.args.commands.now c.loop-command.command-index c.loop-command.table.items _ _ c.loop-command.invariant.playing c.loop-command-test.false
+
+pub play_command-requires-clause-rests : goal.play_command-requires-clause-rests
+play_command-requires-clause-rests g c =
+    let b = c.loop-command.invariant.playing in
+    let since = c.left-first.ensures in
+    rests_after c.left-first.result c.args.port.now c.loop-command.port b.made (rests_first c.left-first.result c.args.port.now (omega arith)) b.adds b.whole
+
+pub tell-requires-clause-rests : goal.tell-requires-clause-rests
+tell-requires-clause-rests g c =
+    let b = c.loop-command.invariant.playing in
+    let k = c.play_command.ensures.plays in
+    let since = c.left-first.ensures in
+    rests_after c.left-first.result c.loop-command.port c.play_command.new.port k.made
+    (rests_after c.left-first.result c.args.port.now c.loop-command.port b.made (rests_first c.left-first.result c.args.port.now (omega arith)) b.adds b.whole) k.adds k.whole
+
+pub tell-requires-2-clause-rests : goal.tell-requires-2-clause-rests
+tell-requires-2-clause-rests g c =
+    let b = c.loop-command.invariant.playing in
+    let since = c.left-first.ensures in
+    rests_after c.left-first.result c.args.port.now c.loop-command.port b.made (rests_first c.left-first.result c.args.port.now (omega arith)) b.adds b.whole

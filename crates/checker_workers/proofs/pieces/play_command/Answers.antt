@@ -19,7 +19,7 @@ returns-in-Read-clause-plays g c =
 
 pub returns-in-Submit-clause-plays : goal.returns-in-Submit-clause-plays
 returns-in-Submit-clause-plays g c =
-    plays_submit_as c.args.port.now c.submit.new.self c.args.table.now.items c.push_reserved.new.self.items c.in-Submit.unit c.in-Submit.slot c.in-Submit.access c.submit.result c.args.command c.in-Submit.is
+    plays_submit_as c.args.port.now c.submit.new.port c.args.table.now.items c.push_reserved.new.self.items c.in-Submit.unit c.in-Submit.slot c.in-Submit.access c.submit.result c.args.command c.in-Submit.is
     (rw (← c.ticket_of-slot.ensures) c.push_reserved.ensures.items) c.submit.ensures.event c.requires.units c.submit.ensures.ticket c.requires.tickets
 
 pub returns-in-Until-clause-plays : goal.returns-in-Until-clause-plays

@@ -1,6 +1,6 @@
 use Rattle.std.proofs.Common.{sym, subst}
 use Rattle.policy_compiler.specs.Laws.{DecidesAs}
-use Rattle.policy_compiler.proofs.Compiled.{decides_as}
+use Rattle.policy_compiler.proofs.Alike.{decides_as}
 use Rattle.policy_compiler.proofs.image.lawful_image.Goals as goal
 
 pub returns-clause-law : goal.returns-clause-law

@@ -5,6 +5,6 @@ use Rattle.policy_compiler.proofs.writes.enable_bits.Given as goal
 
 abbrev pub invariant-loop-m : goal.invariant-loop-m
 invariant-loop-m l = record {
-  same : l.word + enable_bits l.rrid l.m (drop l.m l.list) ≡ enable_bits l.rrid 0 l.list;
-  small : l.word < 2 ^ (l.m + 1);
+  same : l.bits + enable_bits l.rrid l.m (drop l.m l.list) ≡ enable_bits l.rrid 0 l.list;
+  small : l.bits < 2 ^ (l.m + 1);
 }

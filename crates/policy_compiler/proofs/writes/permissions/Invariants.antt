@@ -5,6 +5,6 @@ use Rattle.policy_compiler.proofs.writes.permissions.Given as goal
 
 abbrev pub invariant-loop-rrid : goal.invariant-loop-rrid
 invariant-loop-rrid l = record {
-  same : l.word + permissions_from l.members l.rrid (l.rrids - l.rrid) ≡ permissions_from l.members 0 l.rrids;
-  small : l.word < 2 ^ (2 * l.rrid);
+  same : l.bits + permissions_from l.members l.rrid (l.rrids - l.rrid) ≡ permissions_from l.members 0 l.rrids;
+  small : l.bits < 2 ^ (2 * l.rrid);
 }

@@ -1,6 +1,13 @@
-use Rattle.std.proofs.Common.{arith}
-use Rattle.register_fields.proofs.Shapes.{IsTable_one}
 use Rattle.register_fields.proofs.fields.total.Goals as goal
 
-pub sum_of-requires-in-SrcmdPerm : goal.sum_of-requires-in-SrcmdPerm
-sum_of-requires-in-SrcmdPerm c = rw c.field-in-SrcmdPerm.ensures (IsTable_one _ _ (grind arith))
+pub returns-in-ErrCfg : goal.returns-in-ErrCfg
+returns-in-ErrCfg c = rw c.in-ErrCfg.is (c.total_err_cfg.ensures c.args.shape.now)
+
+pub returns-in-ErrInfo : goal.returns-in-ErrInfo
+returns-in-ErrInfo c = rw c.in-ErrInfo.is (c.total_err_info.ensures c.args.shape.now)
+
+pub returns-in-ErrReqid : goal.returns-in-ErrReqid
+returns-in-ErrReqid c = rw c.in-ErrReqid.is (c.total_err_reqid.ensures c.args.shape.now)
+
+pub returns-in-EntryCfg : goal.returns-in-EntryCfg
+returns-in-EntryCfg c = rw c.in-EntryCfg.is (c.total_entry_cfg.ensures c.args.shape.now c.in-EntryCfg.field-0)

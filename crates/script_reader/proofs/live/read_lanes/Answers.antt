@@ -1,21 +1,34 @@
--- A line takes the reading one step on, or refuses the lanes.
-use Rattle.std.proofs.Common.{sym, ◌∙◌, subst, arith, Err}
-use Rattle.script_reader.specs.LiveLanes.{lanes_at, ReadsLanes}
-use Rattle.script_reader.specs.Answers.{Reads, refusal_of}
-use Rattle.script_reader.proofs.LaneSteps.{lanes_ok, lanes_err}
-use Rattle.script_reader.proofs.Writeless.{line_kept}
+-- A line takes the reading one step on.
+use Rattle.std.proofs.Common.{◌≡◌, ap, sym, subst, ◌∙◌, length, arith}
+use Rattle.std.specs.List.{AllByRecursion}
+use Rattle.script_reader.specs.Text.{IsPlainLine}
+use Rattle.script_reader.proofs.Parts.{lines_plain, first_plain}
+use Rattle.script_reader.specs.Lines.{State}
+use Rattle.script_reader.specs.LiveLanes.{lanes_from}
+use Rattle.script_reader.proofs.LineSteps.{few_lines, fewer, lanes_ok}
+use Rattle.script_reader.proofs.Writeless.{line_kept, live_start}
 use Rattle.script_reader.proofs.live.read_lanes.Goals as goal
 
-pub loop-line-preserved : goal.loop-line-preserved
-loop-line-preserved c = (
-  sym (lanes_ok c.loop-line.reader c.in-Ok-lanes_line.next c.loop-line.number c.deref-line-items.result.now c.loop-line.line-index _ c.loop-line-test.true c.in-Ok-lanes_line.ensures.value) ∙ c.loop-line.invariant.0,
-  omega (arith, c.loop-line.invariant.1),
-  c.loop-line.invariant.2,
-  omega (arith, c.in-Ok-lanes_line.ensures.grown, c.loop-line.invariant.3),
-  line_kept c.loop-line.reader c.in-Ok-lanes_line.next _ c.loop-line.invariant.4 c.in-Ok-lanes_line.ensures.value,
-)
+pub loop-line-init : goal.loop-line-init
+loop-line-init c =
+    let few = few_lines c.args.bytes.now in
+    let count = ap length c.of-lines.ensures in
+    let none : length c.in-Ok.reader.section.commands ≡ 0 = ap (λ (s : State). length s.section.commands) c.in-Ok.ensures.state in (
+      ap (λ s. lanes_from s c.args.first_line c.of-lines.result) c.in-Ok.ensures.state ∙ ap (lanes_from _ c.args.first_line) c.of-lines.ensures,
+      omega (arith, few, count),
+      omega (arith, few, count, none),
+      c.in-Ok.ensures.sound,
+      λ e. subst (AllByRecursion IsPlainLine) (sym c.of-lines.ensures) (lines_plain c.args.bytes.now (sym c.is_plain_text-plain.ensures ∙ e)),
+      live_start c.in-Ok.reader c.in-Ok.ensures.state,
+    )
 
-pub returns-in-Err-clause-lanes : goal.returns-in-Err-clause-lanes
-returns-in-Err-clause-lanes c =
-    subst (λ e. ReadsLanes (Err e) (lanes_at c.args.first_line c.args.bytes.now)) (sym c.at.ensures)
-    (subst (Reads (Err (refusal_of c.loop-line.number c.in-Err.error))) c.loop-line.invariant.0 (lanes_err c.loop-line.reader c.loop-line.number c.deref-line-items.result.now c.loop-line.line-index _ c.in-Err.error c.loop-line-test.true c.in-Err.ensures.value))
+pub loop-line-preserved : goal.loop-line-preserved
+loop-line-preserved c =
+    let count = fewer c.in-Some.line.now c.loop-line.lines c.next.new.self c.in-Some.ensures in (
+      sym (lanes_ok c.loop-line.reader c.lanes_line.new.self c.loop-line.number c.in-Some.line.now c.loop-line.lines c.next.new.self c.in-Some.ensures c.in_default-lanes_line.ensures.value) ∙ c.loop-line.invariant.0,
+      omega (arith, c.loop-line.invariant.1, count),
+      omega (arith, c.loop-line.invariant.2, c.in_default-lanes_line.ensures.grown, count),
+      c.in_default-lanes_line.ensures.sound,
+      (first_plain c.is_plain_text-plain.result c.in-Some.line.now c.loop-line.lines c.next.new.self c.in-Some.ensures c.loop-line.invariant.4).1,
+      line_kept c.loop-line.reader c.lanes_line.new.self c.in-Some.line.now c.loop-line.invariant.5 c.in_default-lanes_line.ensures.value,
+    )

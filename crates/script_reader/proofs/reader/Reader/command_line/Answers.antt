@@ -1,16 +1,15 @@
 -- The open section has one command more.
-use Rattle.std.proofs.Common.{◌≡◌, length, ap, subst, rules}
-use Rattle.script_reader.specs.Lines.{State, OpenSection}
-use Rattle.script_reader.specs.Sound.{IsInSection}
-use Rattle.script_reader.proofs.Sounds.{section_pushed, sound_section}
+use Rattle.std.proofs.Common.{◌≡◌, length, ap, sym, subst, rules}
+use Rattle.script_reader.specs.Lines.{State}
+use Rattle.script_reader.specs.Sound.{IsSound, IsInSection}
+use Rattle.script_reader.proofs.Sounds.{sound_pushed}
 use Rattle.script_reader.proofs.reader.Reader.command_line.Goals as goal
 
-pub invariant_of-result : goal.invariant_of-result
-invariant_of-result c =
+pub returns-clause-sound : goal.returns-clause-sound
+returns-clause-sound c =
     let s : State = record { place = c.self.inside.place; shapes = c.self.inside.shapes.items; boot = c.self.inside.boot; lanes = c.self.inside.lanes.items; section = c.self.inside.section } in
-    let place : c.args.self.place ≡ c.self.inside.place = cc (ap (λ (t : State). t.place) c.self.view_is) in
-    let units : c.len.result ≡ length c.self.inside.shapes.items = search rules in
-    let slots : length c.section.inside.names ≡ length c.self.inside.section.names = cc (ap (λ (o : OpenSection). length o.names) c.section.view_is) in
-    sound_section s c.in_ok-section.section (subst IsInSection place c.requires)
-    (section_pushed (length s.shapes) c.len.result (length c.section.inside.names) s.section c.in_ok-section.section c.in_ok-command.command c.self.invariant.section c.in_ok-command.ensures.good units slots c.in_ok-command.ensures.other c.in_ok-section.ensures)
-    c.self.invariant
+    let same : s ≡ c.args.self.now = c.self.view_is in
+    let here : IsInSection s.place = subst (λ (t : State). IsInSection t.place) (sym same) c.requires.in_section in
+    let units : c.len.result ≡ length s.shapes = search rules in
+    let slots : length c.names.result.now ≡ length s.section.names = ap length c.names.ensures in
+    sound_pushed c.push.result s c.len.result (length c.names.result.now) c.push.new.self c.in_ok-command.command here (subst IsSound (sym same) c.requires.sound) c.in_ok-command.ensures.good units slots c.in_ok-command.ensures.other c.push.ensures

@@ -1,0 +1,88 @@
+-- An input that is accepted is not refused.
+use Rattle.std.proofs.Common.{◌≡◌, ℕ, ◌<◌, Bool, true, false, List, Some, None, Ok, Err, sym, ap, subst, ◌∙◌, inl, inr, arith}
+use Rattle.script_reader.specs.Scripts.{need_of}
+use Rattle.script_reader.specs.LiveLanes.{lanes_at}
+use Rattle.script_reader.specs.UpdateTexts.{UpdateTextOf, update_text_at}
+use Rattle.policy_compiler.specs.Policies.{PolicyOf}
+use Rattle.policy_compiler.specs.Gives.{Reads}
+use Rattle.policy_compiler.specs.Needs.{need_refusal}
+use Rattle.policy_compiler.proofs.OnePolicy.{same_policy, no_fault}
+use Rattle.update_planner.specs.Refusals.{plan_refusal}
+use Rattle.iopmp_program.specs.declared.subcommand.Subcommand.{Subcommand}
+use Rattle.iopmp_program.specs.declared.subcommand.Subcommand.TheVariants.{Run, Compile, Plan, Live, Gen, Soak}
+use Rattle.iopmp_program.specs.declared.refusals.policy_lines.WhichPolicy.{WhichPolicy}
+use Rattle.iopmp_program.specs.declared.refusals.policy_lines.WhichPolicy.TheVariants.{Only, Old, New}
+use Rattle.iopmp_program.specs.PolicyLines.{policy_line, IsNoPolicy}
+use Rattle.iopmp_program.specs.UpdateInputs.{UpdateOf, IsUpdate, IsNoUpdate, update_of}
+use Rattle.iopmp_program.specs.LiveCommand.{live_script, IsUpdateLine}
+use Rattle.iopmp_program.specs.CommandTables.{IsRefused, IsAccepted}
+
+-- a policy's text has no line
+has_line : (bytes line : List ℕ) (p : PolicyOf) (which : WhichPolicy) → Reads (Ok p) bytes → IsNoPolicy which bytes line → ⊥
+has_line bytes line p which a r =
+    let none : policy_line which r.error ≡ None = ap (policy_line which) (no_fault bytes p r.error a r.fault) in
+    let some = r.named in
+    cc
+
+-- ---- an input stands for one update
+
+same_text : (lanes : Bool) (bytes : List ℕ) (t u : UpdateTextOf) → update_text_at lanes bytes ≡ Ok t → update_text_at lanes bytes ≡ Ok u → t ≡ u
+same_text lanes bytes t u a b = cc
+
+same_update : (lanes : Bool) (bytes : List ℕ) (u v : UpdateOf) → IsUpdate lanes bytes u → IsUpdate lanes bytes v → u ≡ v
+same_update lanes bytes u v a b =
+    let t : a.text ≡ b.text = same_text lanes bytes a.text b.text a.headed b.headed in
+    let old : u.old ≡ v.old = same_policy b.text.old u.old v.old (subst (λ x. Reads (Ok u.old) x.old) t a.old) b.old in
+    let new : u.new ≡ v.new = same_policy b.text.new u.new v.new (subst (λ x. Reads (Ok u.new) x.new) t a.new) b.new in
+    a.is ∙ ap (λ p. update_of p u.new a.text) old ∙ ap (λ p. update_of v.old p a.text) new ∙ ap (update_of v.old v.new) t ∙ sym b.is
+
+is_update : (lanes : Bool) (bytes line : List ℕ) (u : UpdateOf) → IsUpdate lanes bytes u → IsNoUpdate lanes bytes line → ⊥
+is_update lanes bytes line u is (inl r) = let e = is.headed in let f = r.fault in cc
+is_update lanes bytes line u is (inr (inl r)) =
+    let t : is.text ≡ r.text = same_text lanes bytes is.text r.text is.headed r.headed in
+    has_line r.text.old line u.old Old (subst (λ x. Reads (Ok u.old) x.old) t is.old) r.fault
+is_update lanes bytes line u is (inr (inr r)) =
+    let t : is.text ≡ r.text = same_text lanes bytes is.text r.text is.headed r.headed in
+    has_line r.text.new line u.new New (subst (λ x. Reads (Ok u.new) x.new) t is.new) r.fault
+
+-- ---- each command
+
+pub never_refused : (command : Subcommand) (bytes line : List ℕ) → IsAccepted command bytes → IsRefused command bytes line → ⊥
+never_refused Run bytes line a r = let e = a.1 in let f = r.refused in cc
+never_refused Compile bytes line a (inl r) = has_line bytes line a.policy Only a.stands_for r
+never_refused Compile bytes line a (inr r) =
+    let same : r.policy ≡ a.policy = same_policy bytes r.policy a.policy r.stands_for a.stands_for in
+    let needs : need_refusal a.policy ≡ Some r.is.error = subst (λ p. need_refusal p ≡ Some r.is.error) same r.is.needs in
+    let fits = a.is in
+    cc
+never_refused Plan bytes line a (inl r) = is_update false bytes line a.update a.stands_for r
+never_refused Plan bytes line a (inr r) =
+    let same : r.update ≡ a.update = same_update false bytes r.update a.update r.stands_for a.stands_for in
+    let fault : plan_refusal a.update.old a.update.new ≡ Some r.is.error = subst (λ x. plan_refusal x.old x.new ≡ Some r.is.error) same r.is.fault in
+    let plans = a.is in
+    cc
+never_refused Live bytes line a (inl r) = is_update true bytes line a.update a.stands_for r
+never_refused Live bytes line a (inr r) = by (same_update true bytes r.update a.update r.stands_for a.stands_for) r.is
+  where
+    u : UpdateOf
+    u = a.update
+
+    by : r.update ≡ u → IsUpdateLine r.update line → ⊥
+    by same (inl f) =
+        let fault : plan_refusal u.old u.new ≡ Some f.error = subst (λ x. plan_refusal x.old x.new ≡ Some f.error) same f.fault in
+        let plans = a.is.has.plans in
+        cc
+    by same (inr (inl f)) =
+        let fault : lanes_at u.first_line u.lanes ≡ Err f.lanes.bad = subst (λ x. lanes_at x.first_line x.lanes ≡ Err f.lanes.bad) same f.lanes.fault in
+        let good = a.is.has.lanes_are in
+        cc
+    by same (inr (inr f)) =
+        let read : lanes_at u.first_line u.lanes ≡ Ok f.lanes = subst (λ x. lanes_at x.first_line x.lanes ≡ Ok f.lanes) same f.has.lanes_are in
+        let good = a.is.has.lanes_are in
+        let sections : f.lanes ≡ a.is.lanes = cc in
+        let many = subst (λ x. 1048576 < need_of (live_script x f.lanes)) same f.needs.many in
+        let most = subst (λ x. 1048576 < need_of (live_script u x)) sections many in
+        let few = a.is.few in
+        omega (arith, few, most)
+never_refused (Gen number) bytes line a r = absurd r
+never_refused (Soak number) bytes line a r = absurd r

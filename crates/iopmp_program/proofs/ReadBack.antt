@@ -1,0 +1,136 @@
+-- What is printed is read as the script, or the lane, that it was printed from.
+use Rattle.std.proofs.Common.{◌≡◌, ℕ, ◌≤◌, List, [], ◌∷◌, ◌++◌, length, map, filter, sum_by, None, Ok, refl, ap, ◌∙◌, arith}
+use Rattle.std.specs.Prelude.{codes}
+use Rattle.std.specs.List.{AllByRecursion, range_with_len}
+use Rattle.std.proofs.lemmas.List.FromFn.{length-range_with_len}
+use Rattle.std.proofs.lemmas.List.Sums.{sum_by-cons, sum_by-append, length-filter, count_by-le-length}
+use Rattle.event_words.specs.declared.section.Command.{Command}
+use Rattle.event_words.specs.declared.section.Command.TheVariants.{Write, Until}
+use Rattle.event_words.specs.Registers.{index_count, index_of}
+use Rattle.event_words.specs.declared.register.Register.TheVariants.{Mdstall}
+use Rattle.event_words.specs.Sections.{SectionOf, most_events, events_of}
+use Rattle.script_reader.specs.Answers.{reading_of}
+use Rattle.script_reader.specs.Canonical.{IsToldWholly, IsReadableScript, with_lane, text_before_end}
+use Rattle.script_reader.specs.Printed.{script_text, lane_text}
+use Rattle.script_reader.specs.Scripts.{IsWellFormedScript}
+use Rattle.script_reader.specs.Told.{IsToldWhole, TellsWhole}
+use Rattle.script_reader.proofs.WrittenScripts.{script_reads_back, lane_reads_back}
+use Rattle.policy_compiler.specs.declared.image.RegPair.{RegPair}
+use Rattle.policy_compiler.specs.Policies.{PolicyOf, IsPolicy}
+use Rattle.policy_compiler.specs.Needs.{need_refusal}
+use Rattle.policy_compiler.specs.Images.{ImageOf, image_of}
+use Rattle.policy_compiler.specs.Commands.{write_command, image_section}
+use Rattle.policy_compiler.proofs.ImageSections.{few_writes, image_is_valid, image_names_unit_0}
+use Rattle.update_planner.specs.Plans.{is_rewritten, rewrite, rewrites, plan_commands}
+use Rattle.iopmp_program.specs.CompileCommand.{image_script}
+use Rattle.iopmp_program.specs.GeneratedScripts.{boot_writes, generated_script}
+use Rattle.iopmp_program.specs.GenCommand.{generated_text}
+use Rattle.iopmp_program.specs.UpdateInputs.{UpdateOf, IsReadable}
+use Rattle.iopmp_program.specs.PlanCommand.{plan_section, old_script, Plans}
+use Rattle.iopmp_program.proofs.GeneratedSound.{each_lane, generated_told, formed, few}
+use Rattle.iopmp_program.proofs.LiveScripts as live
+
+-- ---- writes
+
+writes_told : (ws : List RegPair) → AllByRecursion IsToldWhole (map write_command ws)
+writes_told [] = tt
+writes_told (w ∷ ws) = (tt, writes_told ws)
+
+writes_events : (ws : List RegPair) → sum_by most_events (map write_command ws) ≡ length ws
+writes_events [] = refl
+writes_events (w ∷ ws) = omega (arith, sum_by-cons most_events (write_command w) (map write_command ws), writes_events ws)
+
+-- ---- an image
+
+image_formed : (policy : PolicyOf) → IsPolicy policy → need_refusal policy ≡ None → IsWellFormedScript (image_script (image_of policy))
+unfolding image_of
+image_formed policy good fits = record {
+  some_units = omega arith;
+  few_units = omega arith;
+  shapes = (good.shape.valid, tt);
+  few_lanes = omega arith;
+  boot = image_is_valid policy good fits;
+  boot_units = image_names_unit_0 policy;
+  lanes = tt;
+  lanes_units = tt;
+}
+
+image_events : (policy : PolicyOf) → IsPolicy policy → need_refusal policy ≡ None → events_of (image_section (image_of policy)) ≤ 65536
+image_events policy good fits = let few = few_writes policy good fits in omega (arith, few, writes_events (image_of policy).writes)
+
+pub image_read_back : (policy : PolicyOf) (text : List ℕ) → IsPolicy policy → need_refusal policy ≡ None → text ≡ script_text (image_script (image_of policy)) → reading_of text ≡ Ok (image_script (image_of policy))
+image_read_back policy text good fits printed =
+    ap reading_of printed ∙ script_reads_back (image_script (image_of policy)) (record {
+      formed = image_formed policy good fits;
+      few = let few = image_events policy good fits in omega (arith, few);
+      whole = record { boot = writes_told (image_of policy).writes; lanes = tt };
+    })
+
+-- ---- a generated script
+
+generated_whole : (number : ℕ) → IsToldWholly (generated_script number)
+unfolding generated_script
+generated_whole number = record { boot = writes_told boot_writes; lanes = each_lane TellsWhole number 0 8 (generated_told number) }
+
+pub generated_read_back : (number : ℕ) (text : List ℕ) → text ≡ generated_text number → reading_of text ≡ Ok (generated_script number)
+unfolding generated_text
+generated_read_back number text printed =
+    ap reading_of printed ∙ script_reads_back (generated_script number) (record { formed = formed number; few = few number; whole = generated_whole number })
+
+-- ---- a plan
+
+module _ (new : ImageOf) where
+  rewrites_told : (is : List ℕ) (rest : List Command) → AllByRecursion IsToldWhole rest → AllByRecursion IsToldWhole (map (rewrite new) is ++ rest)
+  rewrites_told [] rest h = h
+  rewrites_told (i ∷ is) rest h = (tt, rewrites_told is rest h)
+
+  rewrites_events : (is : List ℕ) → sum_by most_events (map (rewrite new) is) ≡ length is
+  rewrites_events [] = refl
+  rewrites_events (i ∷ is) = omega (arith, sum_by-cons most_events (rewrite new i) (map (rewrite new) is), rewrites_events is)
+
+rewritten_few : (old new : ImageOf) → length (filter (is_rewritten old new) (range_with_len 0 (index_count new.shape))) ≤ index_count new.shape
+rewritten_few old new =
+    let all = range_with_len 0 (index_count new.shape) in
+    let e = length-filter (is_rewritten old new) all in
+    let l = count_by-le-length (is_rewritten old new) all in
+    omega (arith, e, l, length-range_with_len 0 (index_count new.shape))
+
+plan_told : (old new : ImageOf) (polls : ℕ) → AllByRecursion IsToldWhole (plan_commands old new polls)
+unfolding plan_commands rewrites
+plan_told old new polls =
+    let last : List Command = Write 0 (index_of Mdstall) 0 ∷ [] in
+    (tt, (tt, rewrites_told new (filter (is_rewritten old new) (range_with_len 0 (index_count new.shape))) last (tt, tt)))
+
+plan_events : (old new : ImageOf) (polls : ℕ) → new.shape.entries ≤ 1024 → polls ≤ 4096 → sum_by most_events (plan_commands old new polls) ≤ 65536
+unfolding plan_commands rewrites
+plan_events old new polls entries few =
+    let stall : ℕ = index_of Mdstall in
+    let indices : List ℕ = filter (is_rewritten old new) (range_with_len 0 (index_count new.shape)) in
+    let last : List Command = Write 0 stall 0 ∷ [] in
+    omega (
+      arith,
+      entries,
+      few,
+      sum_by-cons most_events (Write 0 stall 1) (Until 0 stall 1 0 polls ∷ (map (rewrite new) indices ++ last)),
+      sum_by-cons most_events (Until 0 stall 1 0 polls) (map (rewrite new) indices ++ last),
+      sum_by-append most_events (map (rewrite new) indices) last,
+      rewrites_events new indices,
+      rewritten_few old new,
+    )
+
+plan_readable : (u : UpdateOf) (section : SectionOf) → IsReadable u → Plans u section → IsReadableScript (with_lane (old_script u) (plan_section u))
+unfolding image_of
+plan_readable u section good p = record {
+  formed = live.formed u section [] good p (record { few = omega arith; valid = tt; units_there = tt; write_nothing = tt });
+  few =
+      let entries = good.new.shape.valid.entries in
+      let plan = plan_events (image_of u.old) (image_of u.new) u.polls (omega arith) (good.polls.few) in
+      let boot = image_events u.old good.old p.old_fits in
+      omega (arith, plan, boot);
+  whole = record { boot = writes_told (image_of u.old).writes; lanes = (plan_told (image_of u.old) (image_of u.new) u.polls, tt) };
+}
+
+pub plan_read_back : (u : UpdateOf) (section : SectionOf) (text : List ℕ) → IsReadable u → Plans u section → text ≡ lane_text 1 (plan_section u) ++ codes "end\n"
+    → reading_of (text_before_end (old_script u) ++ text) ≡ Ok (with_lane (old_script u) (plan_section u))
+plan_read_back u section text good p printed =
+    ap (λ t. reading_of (text_before_end (old_script u) ++ t)) printed ∙ lane_reads_back 1 (plan_section u) (old_script u) refl (plan_readable u section good p)

@@ -1,0 +1,24 @@
+use Rattle.std.proofs.Common.{◌+◌, drop, rules, sym, ap, ◌∙◌}
+use Rattle.event_words.specs.declared.record.LoggedEvent.{LoggedEvent}
+use Rattle.event_words.specs.Runs.{logged_from}
+use Rattle.unit_core.specs.Fabrics.{state_after_word, reply_to_word}
+use Rattle.iopmp_program.specs.SectionEnds.{cursor_ends}
+use Rattle.iopmp_program.proofs.OnePass.{run_more, logged_more, text_more}
+use Rattle.iopmp_program.proofs.reports.push_history.Goals as goal
+
+pub loop-place-preserved : goal.loop-place-preserved
+loop-place-preserved c =
+    let words = c.args.words.now in
+    let i = c.loop-place.place in
+    let within = c.loop-place-test.true in
+    let x : LoggedEvent = record { place = i; event = c.in-Some.event; reply = c.apply-reply.result } in
+    let more = logged_more state_after_word reply_to_word words i c.loop-place.units.state c.apply-reply.new.self.state c.in-Some.event c.apply-reply.result within c.apply-reply.ensures.state c.apply-reply.ensures.reply (sym c.unpack.ensures.value ∙ c.in-Some.is) in
+    let rest = logged_from state_after_word reply_to_word (i + 1) c.apply-reply.new.self.state (drop (i + 1) words) in
+    record {
+      next = search rules;
+      places = search rules;
+      text = text_more _ _ x _ _ c.in_ok-push_event.ensures more ∙ c.loop-place.invariant.text;
+      units = run_more state_after_word words i c.loop-place.units.state c.apply-reply.new.self.state within c.apply-reply.ensures.state ∙ c.loop-place.invariant.units;
+      ends = c.note.ensures.ends rest ∙ ap (λ xs. cursor_ends 0 c.loop-place.cursors xs) (sym more) ∙ c.loop-place.invariant.ends;
+      count = search rules;
+    }

@@ -1,0 +1,57 @@
+-- What each command answers: its texts, its refusals, and the inputs that it accepts. A line for each command; what
+-- a line says stands in the command's own file.
+use Rattle.std.specs.Prelude.{ℕ, Bool, true, false, List, Option, Result}
+use Rattle.iopmp_program.specs.declared.status.Status.{Status}
+use Rattle.iopmp_program.specs.declared.subcommand.Subcommand.{Subcommand}
+use Rattle.iopmp_program.specs.declared.subcommand.Subcommand.TheVariants.{Run, Compile, Plan, Live, Gen, Soak}
+use Rattle.iopmp_program.specs.declared.answer.Answer.{Answer}
+use Rattle.iopmp_program.specs.declared.answer.NoAnswer.{NoAnswer}
+use Rattle.iopmp_program.specs.AnswerForms.{TextOf, ReportOf, GivesOr}
+use Rattle.iopmp_program.specs.RunCommand.{IsReport, IsRefusal, StandsForScript}
+use Rattle.iopmp_program.specs.CompileCommand.{IsCompiled, IsNotCompiled, CanBeCompiled}
+use Rattle.iopmp_program.specs.PlanCommand.{IsPlanned, IsNotPlanned, CanBePlanned}
+use Rattle.iopmp_program.specs.LiveCommand.{IsLiveReport, IsLiveRefusal, CanBeRunLive}
+use Rattle.iopmp_program.specs.GenCommand.{IsGenerated}
+use Rattle.iopmp_program.specs.SoakCommand.{IsSoaked}
+
+-- whether the command reads its input
+abbrev pub reads : Subcommand → Bool
+reads Run = true
+reads Compile = true
+reads Plan = true
+reads Live = true
+reads (Gen number) = false
+reads (Soak number) = false
+
+-- For these bytes, or for none where it reads none, the command gives this text, the history that the text tells of,
+-- and this status once it is written.
+abbrev pub Gives : Subcommand → List ℕ → Status → Option (List ℕ) → List ℕ → Type 0
+Gives Run bytes = ReportOf (IsReport bytes)
+Gives Compile bytes = TextOf (IsCompiled bytes)
+Gives Plan bytes = TextOf (IsPlanned bytes)
+Gives Live bytes = ReportOf (IsLiveReport bytes)
+Gives (Gen number) bytes = TextOf (IsGenerated number)
+Gives (Soak number) bytes = ReportOf (IsSoaked number)
+
+-- The command refuses these bytes with this line.
+abbrev pub IsRefused : Subcommand → List ℕ → List ℕ → Type 0
+IsRefused Run bytes line = IsRefusal bytes line
+IsRefused Compile bytes line = IsNotCompiled bytes line
+IsRefused Plan bytes line = IsNotPlanned bytes line
+IsRefused Live bytes line = IsLiveRefusal bytes line
+IsRefused (Gen number) bytes line = ⊥
+IsRefused (Soak number) bytes line = ⊥
+
+-- The bytes have none of the command's faults.
+abbrev pub IsAccepted : Subcommand → List ℕ → Type 0
+IsAccepted Run bytes = StandsForScript bytes
+IsAccepted Compile bytes = CanBeCompiled bytes
+IsAccepted Plan bytes = CanBePlanned bytes
+IsAccepted Live bytes = CanBeRunLive bytes
+IsAccepted (Gen number) bytes = Unit {0}
+IsAccepted (Soak number) bytes = Unit {0}
+
+-- what a command's function gives for these bytes
+abbrev pub Answers : Subcommand → List ℕ → Result Answer NoAnswer → Type 0
+Answers command bytes =
+    GivesOr (λ a. Gives command bytes a.status a.history a.text.items) (IsRefused command bytes)

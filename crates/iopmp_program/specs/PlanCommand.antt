@@ -1,0 +1,52 @@
+-- What `plan` answers.
+use Rattle.std.specs.Prelude.{◌≡◌, ◌⊎◌, ℕ, List, ◌++◌, None, Ok, false, codes}
+use Rattle.event_words.specs.Sections.{SectionOf, IsValidSection}
+use Rattle.script_reader.specs.Scripts.{ScriptOf}
+use Rattle.script_reader.specs.Answers.{reading_of}
+use Rattle.script_reader.specs.Canonical.{with_lane, text_before_end}
+use Rattle.script_reader.specs.Printed.{lane_text}
+use Rattle.policy_compiler.specs.Needs.{need_refusal}
+use Rattle.policy_compiler.specs.Images.{image_of}
+use Rattle.update_planner.specs.Plans.{plan_commands}
+use Rattle.update_planner.specs.Refusals.{plan_refusal}
+use Rattle.update_planner.specs.Gives.{section_with}
+use Rattle.iopmp_program.specs.CompileCommand.{image_script}
+use Rattle.iopmp_program.specs.UpdateInputs.{UpdateOf, OfUpdate, IsNoUpdate, HasNoPlan}
+
+-- the commands that take a unit from the old policy's image to the new one's
+abbrev pub plan_section : UpdateOf → SectionOf
+plan_section u = section_with (plan_commands (image_of u.old) (image_of u.new) u.polls)
+
+-- ---- of an update
+
+-- the script of the old policy's image
+abbrev pub old_script : UpdateOf → ScriptOf
+old_script u = image_script (image_of u.old)
+
+-- There is a plan from one policy to the other, and the text is that plan as lane 1. In place of the last line of
+-- the old image's script it is read as that script's lane.
+pub record IsPlanText (u : UpdateOf) (text : List ℕ) : Type 0 where
+  pub plans : plan_refusal u.old u.new ≡ None
+  pub printed : text ≡ lane_text 1 (plan_section u) ++ codes "end\n"
+  pub read_back : reading_of (text_before_end (old_script u) ++ text) ≡ Ok (with_lane (old_script u) (plan_section u))
+
+-- there is one, and this is its section; both policies fit one unit
+pub record Plans (u : UpdateOf) (section : SectionOf) : Type 0 where
+  pub plans : plan_refusal u.old u.new ≡ None
+  pub is : section ≡ plan_section u
+  pub valid : IsValidSection section
+  pub shapes : u.old.shape ≡ u.new.shape
+  pub old_fits : need_refusal u.old ≡ None
+  pub new_fits : need_refusal u.new ≡ None
+
+-- ---- of an input
+
+abbrev pub IsPlanned : List ℕ → List ℕ → Type 0
+IsPlanned bytes text = OfUpdate false (λ u. IsPlanText u text) bytes
+
+abbrev pub IsNotPlanned : List ℕ → List ℕ → Type 0
+IsNotPlanned bytes line = IsNoUpdate false bytes line ⊎ OfUpdate false (λ u. HasNoPlan u line) bytes
+
+-- two policies with a plan from one to the other
+abbrev pub CanBePlanned : List ℕ → Type 0
+CanBePlanned bytes = OfUpdate false (λ u. plan_refusal u.old u.new ≡ None) bytes

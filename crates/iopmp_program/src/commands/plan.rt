@@ -1,0 +1,54 @@
+// The command `plan`: the plan from one policy to another is printed as a lane.
+ghost use Rattle.std.specs.Prelude.{◌≡◌, ◌++◌, ◌≤◌, length, IfOk, codes};
+ghost use Rattle.iopmp_program.specs.UpdateInputs.{IsReadable, HasNoPlan};
+ghost use Rattle.iopmp_program.specs.PlanCommand.{IsPlanText};
+ghost use Rattle.iopmp_program.specs.AnswerForms.{GivesOr};
+ghost use Rattle.iopmp_program.specs.CommandTables.{Answers};
+ghost use Rattle.iopmp_program.specs.declared.subcommand.Subcommand.TheVariants as commands;
+
+use crate::answer::{Answer, NoAnswer, text_answer};
+use crate::inputs::update::{Update, planned, two_policies};
+use script_reader::print_lane;
+use std::alloc::{AllocError, Global};
+
+fn with_end(text: Vec<u8>) -> Result<Vec<u8>, AllocError>
+    ensures { IfOk result (λ whole. whole.items ≡ text.items ++ codes "end\n") }
+{
+    let mut text = text;
+    text.extend_from_slice(b"end\n")?;
+    Ok(text)
+}
+
+/// The printed plan of an update.
+#[tactic(auto, using(crate::proofs::ReadBack::plan_read_back))]
+fn plan_text(alloc: Global, update: &Update) -> Result<Vec<u8>, NoAnswer>
+    requires { IsReadable update.now }
+    ensures { GivesOr (λ text. IsPlanText update.now text.items) (HasNoPlan update.now) result }
+{
+    let section = match planned(alloc, update) {
+        Ok(section) => section,
+        Err(refused) => return Err(refused),
+    };
+    let Ok(lane) = print_lane(alloc, 1, &section) else {
+        return Err(NoAnswer::NoMemory);
+    };
+    match with_end(lane) {
+        Ok(text) => Ok(text),
+        Err(_) => Err(NoAnswer::NoMemory),
+    }
+}
+
+/// The printed plan of the input's two policies.
+pub fn plan_answer(alloc: Global, bytes: &[u8]) -> Result<Answer, NoAnswer>
+    requires { length bytes.now ≤ 4194304 }
+    ensures { Answers commands.Plan bytes.now result }
+{
+    let update = match two_policies(alloc, bytes, false) {
+        Ok(update) => update,
+        Err(refused) => return Err(refused),
+    };
+    match plan_text(alloc, &update) {
+        Ok(text) => Ok(text_answer(text)),
+        Err(refused) => Err(refused),
+    }
+}

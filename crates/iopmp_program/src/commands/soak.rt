@@ -1,0 +1,48 @@
+// The command `soak`: a generated script is run, and a summary of its history's verdicts is printed.
+ghost use Rattle.std.specs.Prelude.{◌≡◌, IfOk, List, ℕ};
+ghost use Rattle.iopmp_program.specs.SoakCommand.{IsSoaked};
+ghost use Rattle.iopmp_program.specs.AnswerForms.{ReportOf};
+ghost use Rattle.iopmp_program.specs.CommandTables.{Answers};
+ghost use Rattle.iopmp_program.specs.declared.subcommand.Subcommand.TheVariants as commands;
+
+use crate::answer::{Answer, NoAnswer, report_answer};
+use crate::generated::script::generated_script;
+use crate::generated::summary::{summary, verdict_codes};
+use crate::memory::NoMemory;
+use crate::playing::play;
+use crate::reports::replay::replay_words;
+use checker_workers::Gate;
+use std::alloc::Global;
+use std::thread::Threads;
+
+/// Runs the generated script of a number and counts its verdicts.
+fn soaked<R: Threads + Sync, G: Gate + Sync>(
+    rt: &R,
+    alloc: Global,
+    number: u32,
+    gate: &G,
+) -> Result<Answer, NoMemory>
+    ensures { IfOk result (λ a. ReportOf (IsSoaked number) a.status a.history a.text.items) }
+{
+    let script = generated_script(alloc, number)?;
+    let history = play(rt, alloc, &script, gate)?;
+    let replay = replay_words(alloc, &script.shapes, history.words())?;
+    let codes = verdict_codes(alloc, &replay.events)?;
+    let text = summary(alloc, number, &codes)?;
+    Ok(report_answer(history, text))
+}
+
+/// The summary of a history of a generated script, whatever the input is.
+pub fn soak_answer<R: Threads + Sync, G: Gate + Sync>(
+    rt: &R,
+    alloc: Global,
+    number: u32,
+    gate: &G,
+) -> Result<Answer, NoAnswer>
+    ensures { (bytes : List ℕ) → Answers (commands.Soak number) bytes result }
+{
+    match soaked(rt, alloc, number, gate) {
+        Ok(answer) => Ok(answer),
+        Err(_) => Err(NoAnswer::NoMemory),
+    }
+}

@@ -1,0 +1,63 @@
+// The commands of the program.
+ghost use Rattle.std.specs.Prelude.{◌≡◌, map};
+ghost use Rattle.std.specs.String.{string_bytes};
+ghost use Rattle.iopmp_program.specs.CommandWords.{numbered, command_of};
+ghost use Rattle.iopmp_program.specs.CommandTables.{reads};
+
+use crate::generated::script_number::script_number;
+
+/// What the program is asked to do.
+#[derive(Clone, Copy, Debug, PartialEq, Eq)]
+pub enum Subcommand {
+    /// Plays a script and prints the report of its history.
+    Run,
+    /// Compiles a policy and prints the script of its image.
+    Compile,
+    /// Prints the plan from one policy to another, as a lane.
+    Plan,
+    /// Plays the plan beside lanes and prints the report of its history.
+    Live,
+    /// Prints the generated script of a number.
+    Gen(u32),
+    /// Runs the generated script of a number and prints a summary of its history.
+    Soak(u32),
+}
+
+impl Subcommand {
+    /// Whether the command reads its input.
+    pub fn reads(&self) -> bool
+        ensures { result ≡ reads self.now }
+    {
+        match self {
+            Subcommand::Run | Subcommand::Compile | Subcommand::Plan | Subcommand::Live => true,
+            Subcommand::Gen(_) | Subcommand::Soak(_) => false,
+        }
+    }
+}
+
+/// The commands that take the number of a generated script.
+fn numbered(word: &str, number: &str) -> Option<Subcommand>
+    ensures { result ≡ numbered word.now number.now }
+{
+    if word == "gen" {
+        return script_number(number).map(|n| Subcommand::Gen(n));
+    }
+    if word == "soak" {
+        return script_number(number).map(|n| Subcommand::Soak(n));
+    }
+    None
+}
+
+/// The command that the words after the program's name are, if they are one.
+pub fn command_in(words: &[String]) -> Option<Subcommand>
+    ensures { result ≡ command_of (map string_bytes words.now) }
+{
+    match words {
+        [word] if word.as_str() == "run" => Some(Subcommand::Run),
+        [word] if word.as_str() == "compile" => Some(Subcommand::Compile),
+        [word] if word.as_str() == "plan" => Some(Subcommand::Plan),
+        [word] if word.as_str() == "live" => Some(Subcommand::Live),
+        [word, number] => numbered(word.as_str(), number.as_str()),
+        _ => None,
+    }
+}

@@ -1,0 +1,148 @@
+-- Names and the numbers that stand for them.
+use Rattle.std.proofs.Common.{◌≡◌, ℕ, suc, ◌+◌, ◌-◌, ◌*◌, ◌^◌, ◌<◌, ◌≤◌, ◌&&◌, nat_le, Bool, true, false, cond, List, [], ◌∷◌, ◌++◌, None, Some, Option, length, map, drop, get_or, slice_index, is_some, unwrap_or, refl, ap, sym, subst, ◌∙◌, inl, inr, arith, length-append, length-drop}
+use Rattle.std.proofs.Math.Nat.{pow-suc, pow-le-pow_right}
+use Rattle.std.proofs.lemmas.Bool.{cases_Bool, cases_lt, leb-true}
+use Rattle.std.proofs.lemmas.Bool.Decides.{nat_tests}
+use Rattle.std.proofs.lemmas.List.{drop_more, get_or-drop, get_or_push, get_or-map, length-map}
+use Rattle.std.proofs.lemmas.Slice.Eq.{bytes_eq-Decides}
+use denote.Ref.{Bor}
+use Rattle.std.specs.Cmp.{nat_cmp_is}
+use Rattle.std.specs.Ordering.{nat_cmp, is_eq}
+use Rattle.std.specs.declared.cmp.Ordering.TheVariants.{Less, Equal, Greater}
+use Rattle.std.specs.List.{list_all}
+use Rattle.std.specs.Str.{bytes_eq}
+use Rattle.std.specs.BTreeMap.{BTreeMap, get, Updates}
+use Rattle.script_reader.specs.Names.{is_letter, is_letter_or_digit, is_name, key_of, slot_of, AreSlotsOf}
+use Rattle.script_reader.proofs.Parts.{and_left, and_right}
+use Rattle.script_reader.proofs.Slots.{slot_more, slot_in, is_none}
+
+-- ---- the number of a name so far
+
+key_bound : (n : ℕ) (bs : List ℕ) → ((k : ℕ) → get_or bs k 0 < 256) → key_of bs < 256 ^ length bs
+key_bound n [] small = omega arith
+key_bound n (b ∷ bs) small =
+    let rest : key_of bs < 256 ^ length bs = key_bound n bs (λ k. small (suc k)) in
+    let first : b < 256 = small 0 in
+    let power : 256 ^ suc (length bs) ≡ 256 ^ length bs * 256 = pow-suc 256 (length bs) in
+    omega (arith, rest, first, power)
+
+-- at most eight bytes fit 64 bits
+pub key_small : (bs : List ℕ) → ((k : ℕ) → get_or bs k 0 < 256) → length bs ≤ 8 → key_of bs < 2 ^ 64
+key_small bs small short =
+    let most : 256 ^ length bs ≤ 256 ^ 8 = pow-le-pow_right {n = 256} (omega arith) short in
+    omega (arith, key_bound 0 bs small, most)
+
+pub key_fits : (name : List ℕ) (left key byte : ℕ) → ((i : ℕ) → get_or name i 0 < 256) → length name ≤ 8 → left < length name → key ≡ key_of (drop (left + 1) name) → byte ≡ get_or name left 0
+    → (key_of (drop left name) ≡ key * 256 + byte) × (key * 256 + byte < 2 ^ 64)
+key_fits name left key byte small short within so_far last =
+    let more : key_of (drop left name) ≡ key * 256 + byte =
+    ap key_of (drop_more name left 0 within) ∙ ap (λ k. k * 256 + get_or name left 0) (sym so_far) ∙ ap (λ b. key * 256 + b) (sym last) in
+    let fits : key_of (drop left name) < 2 ^ 64 =
+    key_small (drop left name) (λ k. subst (λ b. b < 256) (sym (get_or-drop left name k 0)) (small (left + k))) (omega (arith, length-drop left name, short)) in
+    (more, omega (arith, more, fits))
+
+-- ---- names with one number are one
+
+first_byte : (p q a b : ℕ) → a < 256 → b < 256 → p * 256 + a ≡ q * 256 + b → (p ≡ q) × (a ≡ b)
+first_byte p q a b small other e = (omega (arith, small, other, e), omega (arith, small, other, e))
+
+is_byte : (b : ℕ) → is_letter_or_digit b ≡ true → (1 ≤ b) × (b < 256)
+is_byte b h = (grind (arith, nat_tests), grind (arith, nat_tests))
+
+pub same_key : (w q : List ℕ) → list_all is_letter_or_digit w ≡ true → list_all is_letter_or_digit q ≡ true → key_of w ≡ key_of q → w ≡ q
+same_key [] [] h k e = refl
+same_key [] (c ∷ cs) h k e = absurd (omega (arith, e, is_byte c (and_left _ _ k)))
+same_key (b ∷ bs) [] h k e = absurd (omega (arith, e, is_byte b (and_left _ _ h)))
+same_key (b ∷ bs) (c ∷ cs) h k e =
+    let parts = first_byte (key_of bs) (key_of cs) b c (is_byte b (and_left _ _ h)).1 (is_byte c (and_left _ _ k)).1 e in
+    let rest : bs ≡ cs = same_key bs cs (and_right (is_letter_or_digit b) _ h) (and_right (is_letter_or_digit c) _ k) parts.0 in
+    ap (λ x. x ∷ bs) parts.1 ∙ ap (λ l. c ∷ l) rest
+
+-- ---- a name has at most eight letters and digits
+
+pub name_short : (w : List ℕ) → is_name w ≡ true → length w ≤ 8
+unfolding is_name
+name_short w h = leb-true (length w) 8 (and_right (nat_le 1 (length w)) _ (and_left _ _ h))
+
+name_bytes : (w : List ℕ) → is_name w ≡ true → list_all is_letter_or_digit w ≡ true
+unfolding is_name
+name_bytes w h = and_right (is_letter (slice_index w 0)) _ (and_right (nat_le 1 (length w) && nat_le (length w) 8) _ h)
+
+-- ---- the slots with one name more
+
+equal_is : (a b : ℕ) → a ≡ b → is_eq (nat_cmp a b) ≡ true
+equal_is a b e = ap is_eq (sym (nat_cmp_is a b Equal e))
+
+other_is : (a b : ℕ) → (a ≡ b → ⊥) → is_eq (nat_cmp a b) ≡ false
+other_is a b apart =
+    elim (cases_lt a b) [
+      | inl below ↦ ap is_eq (sym (nat_cmp_is a b Less below))
+      | inr above ↦ ap is_eq (sym (nat_cmp_is a b Greater (omega (arith, above, apart))))
+    ]
+
+false_not_true : (b : Bool) → b ≡ false → b ≡ true → ⊥
+false_not_true b f t = cc
+
+-- numbers compare as names do
+key_test : (w q : List ℕ) → is_name w ≡ true → is_name q ≡ true → is_eq (nat_cmp (key_of w) (key_of q)) ≡ bytes_eq w q
+key_test w q h k =
+    elim (cases_Bool (bytes_eq w q)) [
+      | inl t ↦ equal_is (key_of w) (key_of q) (ap key_of ((bytes_eq-Decides w q).0 t)) ∙ sym t
+      | inr f ↦ other_is (key_of w) (key_of q) (λ e. false_not_true (bytes_eq w q) f ((bytes_eq-Decides w q).1 (same_key w q (name_bytes w h) (name_bytes q k) e))) ∙ sym f
+    ]
+
+slots_more : (slots new : BTreeMap ℕ ℕ) (names : List (List ℕ)) (w : List ℕ) (slot key : ℕ) → AreSlotsOf slots names → is_name w ≡ true → slot_of names w ≡ None → key ≡ key_of w → slot ≡ length names
+    → Updates nat_cmp slots new key (Some slot) → (q : List ℕ) → is_name q ≡ true → get nat_cmp new (key_of q) ≡ slot_of (names ++ w ∷ []) q
+slots_more slots new names w slot key old h none same count updates q k =
+    updates.0 (key_of q)
+    ∙ ap (λ n. cond (is_eq (nat_cmp n (key_of q))) (Some slot) (get nat_cmp slots (key_of q))) same
+    ∙ ap (λ b. cond b (Some slot) (get nat_cmp slots (key_of q))) (key_test w q h k)
+    ∙ ap (λ n. cond (bytes_eq w q) (Some n) (get nat_cmp slots (key_of q))) count
+    ∙ ap (λ o. cond (bytes_eq w q) (Some (length names)) o) (old.all q k)
+    ∙ slot_more names w q none
+
+last_added : (names : List (List ℕ)) (w : List ℕ) → slot_of names w ≡ None → slot_of (names ++ w ∷ []) (get_or (names ++ w ∷ []) (length (names ++ w ∷ []) - 1) []) ≡ Some (length (names ++ w ∷ []) - 1)
+last_added names w none =
+    let count : length (names ++ w ∷ []) - 1 ≡ length names = omega (arith, length-append names (w ∷ [])) in
+    ap (λ n. slot_of (names ++ w ∷ []) (get_or (names ++ w ∷ []) n [])) count
+    ∙ ap (slot_of (names ++ w ∷ [])) (get_or_push names w [] (length names) refl)
+    ∙ sym (slot_more names w w none)
+    ∙ ap (λ b. cond b (Some (length names)) (slot_of names w)) ((bytes_eq-Decides w w).1 refl)
+    ∙ ap Some (sym count)
+
+pub slots_added : (slots new : BTreeMap ℕ ℕ) (names : List (List ℕ)) (w : List ℕ) (slot key : ℕ) → AreSlotsOf slots names → is_name w ≡ true → is_some (slot_of names w) ≡ false → key ≡ key_of w → slot ≡ length names
+    → length names < 2 ^ 32 → Updates nat_cmp slots new key (Some slot) → AreSlotsOf new (names ++ w ∷ [])
+slots_added slots new names w slot key old h absent same count few updates =
+    let none : slot_of names w ≡ None = is_none (slot_of names w) absent in
+    record {
+      few = omega (arith, few, length-append names (w ∷ []));
+      all = slots_more slots new names w slot key old h none same count updates;
+      last = λ _. last_added names w none;
+    }
+
+-- the slots stay where a name's own slot is given again
+pub slots_kept : (slots new : BTreeMap ℕ ℕ) (names : List (List ℕ)) → AreSlotsOf slots names → ((q : ℕ) → get nat_cmp new q ≡ get nat_cmp slots q) → AreSlotsOf new names
+slots_kept slots new names old same = record { few = old.few; all = λ name k. same (key_of name) ∙ old.all name k; last = old.last }
+
+-- a slot that is given is no slot of the names before
+pub absent_is : (names : List (List ℕ)) (w : List ℕ) (o : Option ℕ) (slot next : ℕ) → o ≡ slot_of names w → slot ≡ unwrap_or o next → slot ≡ next → next ≡ length names → is_some (slot_of names w) ≡ false
+absent_is names w None slot next e value given count = ap is_some (sym e)
+absent_is names w (Some s) slot next e value given count =
+    let below : s < length names = slot_in names w (Some s) e in
+    absurd (omega (arith, below, value, given, count))
+
+-- the slot of the last of names that are written in a text
+pub last_is : (words : List (Bor (List ℕ))) (names : List (List ℕ)) (x : Bor (List ℕ)) (name : List ℕ) (count : ℕ) → map (λ x. x.now) words ≡ names → count ≡ length words → (count ≡ 0 → ⊥)
+    → x ≡ get_or words (count - 1) x → bytes_eq x.now name ≡ true
+    → (1 ≤ length (map (λ x. x.now) words) → slot_of (map (λ x. x.now) words) (get_or (map (λ x. x.now) words) (length (map (λ x. x.now) words) - 1) []) ≡ Some (length (map (λ x. x.now) words) - 1))
+    → slot_of names name ≡ Some (count - 1)
+last_is words names x name count view all some read same last =
+    let texts : List (List ℕ) = map (λ (x : Bor (List ℕ)). x.now) words in
+    let long : length texts ≡ count = length-map words (λ (x : Bor (List ℕ)). x.now) ∙ sym all in
+    let word : get_or texts (count - 1) [] ≡ name =
+    get_or-map (λ (x : Bor (List ℕ)). x.now) words (count - 1) x [] (omega (arith, all, some)) ∙ ap (λ (x : Bor (List ℕ)). x.now) (sym read) ∙ (bytes_eq-Decides x.now name).0 same in
+    ap (λ ns. slot_of ns name) (sym view)
+    ∙ ap (slot_of texts) (sym word)
+    ∙ ap (λ n. slot_of texts (get_or texts (n - 1) [])) (sym long)
+    ∙ last (omega (arith, long, some))
+    ∙ ap (λ n. Some (n - 1)) long

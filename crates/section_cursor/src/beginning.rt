@@ -1,0 +1,321 @@
+// What a command begins with.
+ghost use Rattle.std.specs.Prelude.{◌≡◌, ◌<◌, ◌≤◌, ◌+◌, ◌∷◌, ℕ, List, Option, length, drop, slice_get, IfSome, if◌then◌else◌, count_by};
+ghost use Rattle.event_words.specs.declared.event.Event.TheVariants as events;
+ghost use Rattle.event_words.specs.declared.record.LoggedEvent.{LoggedEvent};
+ghost use Rattle.event_words.specs.declared.section.Command.{Command as Commands};
+ghost use Rattle.event_words.specs.Sections.{stage_units, is_submit};
+ghost use Rattle.event_words.specs.Records as records;
+ghost use Rattle.event_words.specs.Records.{judgements, polls, settled, until_piece, stage_judged, through_piece, after_piece, slot_of, end_from};
+ghost use Rattle.std.specs.List.{AllByRecursion};
+ghost use Rattle.event_words.specs.Events.{caller_of};
+ghost use Rattle.event_words.specs.Valid.{IsValidAccess, IsValidEvent};
+ghost use Rattle.section_cursor.specs.ValidEvents.{IsValidAhead, IsValidChain, IsValidSlot, IsPlayable};
+ghost use Rattle.section_cursor.specs.Cursors.{end_of_rest, stages_on, submits, AheadHasTries, HasTries};
+
+use crate::ahead::{Ahead, Chain, OpenSlot, Part};
+use event_words::{Access, Command, Event, Stages};
+
+/// Up to `tries` judgements of an open slot.
+pub(crate) fn judging(slot: u32, event: Event, tries: u32) -> Ahead
+    ensures rest { (caller : ℕ) (cs : List Commands) (slots : List (Option records.OpenSlot)) (xs : List LoggedEvent) →
+        end_of_rest caller cs slots result xs ≡ after_piece (end_from caller cs) (settled slots slot (judgements tries event xs)) }
+    ensures none { submits result ≡ 0 }
+    ensures tries { AheadHasTries result }
+    ensures valid { (who : ℕ) → caller_of event ≡ who → IsValidEvent event → IsValidAhead who result }
+{
+    if tries == 0 {
+        return Ahead::Broken;
+    }
+    Ahead::Awaiting {
+        event,
+        part: Part::Judging {
+            slot,
+            left: tries - 1,
+        },
+    }
+}
+
+/// Up to `tries` reads until one hits.
+pub(crate) fn polling(event: Event, mask: u32, value: u32, tries: u32) -> Ahead
+    ensures rest { (caller : ℕ) (cs : List Commands) (slots : List (Option records.OpenSlot)) (xs : List LoggedEvent) →
+        end_of_rest caller cs slots result xs ≡ after_piece (end_from caller cs) (until_piece slots (polls tries event mask value xs)) }
+    ensures none { submits result ≡ 0 }
+    ensures tries { AheadHasTries result }
+    ensures valid { (who : ℕ) → caller_of event ≡ who → IsValidEvent event → IsValidAhead who result }
+{
+    if tries == 0 {
+        return Ahead::Broken;
+    }
+    Ahead::Awaiting {
+        event,
+        part: Part::Polling {
+            mask,
+            value,
+            left: tries - 1,
+        },
+    }
+}
+
+/// Up to `tries` judgements of a stage's submission, and the stages after it.
+pub(crate) fn stage_judging(event: Event, tries: u32, chain: Chain) -> Ahead
+    ensures rest { (caller : ℕ) (cs : List Commands) (slots : List (Option records.OpenSlot)) (xs : List LoggedEvent) →
+        end_of_rest caller cs slots result xs ≡ after_piece (end_from caller cs) (through_piece slots (stage_judged (stages_on caller chain) (judgements tries event xs))) }
+    ensures none { submits result ≡ 0 }
+    ensures tries { 1 ≤ chain.max → AheadHasTries result }
+    ensures valid { (who : ℕ) → caller_of event ≡ who → IsValidEvent event → IsValidChain chain → IsValidAhead who result }
+{
+    if tries == 0 {
+        return Ahead::Broken;
+    }
+    Ahead::Awaiting {
+        event,
+        part: Part::StageJudging {
+            left: tries - 1,
+            chain,
+        },
+    }
+}
+
+/// The units of the stages.
+fn stage_units(stages: &Stages) -> &[u8]
+    ensures units { result.now ≡ stage_units stages.now }
+    ensures few { length result.now ≤ 4 }
+{
+    let count = stages.count as usize;
+    if count < 4 {
+        &stages.units[..count]
+    } else {
+        &stages.units
+    }
+}
+
+/// The unit of the stage with this number, if there is one.
+fn unit_of(stages: &Stages, stage: u8) -> Option<u8>
+    ensures unit { result ≡ slice_get (stage_units stages.now) stage }
+    ensures few { IfSome result (λ _. stage < 4) }
+{
+    match stage_units(stages).get(stage as usize) {
+        Some(unit) => Some(*unit),
+        None => None,
+    }
+}
+
+fn submission(caller: u8, unit: u8, access: Access) -> Event
+    ensures { result ≡ events.Submit unit caller access }
+{
+    Event::Submit {
+        unit,
+        caller,
+        access,
+    }
+}
+
+fn aim_event(caller: u8, access: Access) -> Event
+    ensures { result ≡ events.Aim caller access.addr }
+{
+    Event::Aim {
+        caller,
+        addr: access.addr,
+    }
+}
+
+/// The Wide that follows the Aim of its address.
+pub(crate) fn wide_event(caller: u8, unit: u8, access: Access) -> Event
+    ensures { result ≡ records.wide_event unit caller access }
+{
+    Event::Wide {
+        unit,
+        caller,
+        rrid: access.rrid,
+        kind: access.kind,
+        len: access.len,
+    }
+}
+
+/// The submission of a stage whose number is one less than the chain's, and the stages after it.
+fn stage(caller: u8, unit: u8, access: Access, chain: Chain) -> Ahead
+    requires { access ≡ record chain.access { rrid = access.rrid } }
+    ensures rest { (cs : List Commands) (slots : List (Option records.OpenSlot)) (xs : List LoggedEvent) →
+        end_of_rest caller cs slots result xs ≡ after_piece (end_from caller cs) (through_piece slots (records.one_stage caller chain.max unit access (stages_on caller chain) xs)) }
+    ensures none { submits result ≡ 0 }
+    ensures tries { 1 ≤ chain.max → AheadHasTries result }
+    ensures valid { caller < 32 → unit < 4 → access.rrid ≤ 63 → IsValidChain chain → IsValidAhead caller result }
+{
+    if access.narrow() {
+        return Ahead::Awaiting {
+            event: submission(caller, unit, access),
+            part: Part::Stage { unit, chain },
+        };
+    }
+    Ahead::Awaiting {
+        event: aim_event(caller, access),
+        part: Part::StageAiming {
+            unit,
+            rrid: access.rrid,
+            chain,
+        },
+    }
+}
+
+/// Stages, the first of which bears this requester.
+pub(crate) fn passing(caller: u8, chain: Chain, rrid: u8) -> Ahead
+    ensures rest { (cs : List Commands) (slots : List (Option records.OpenSlot)) (xs : List LoggedEvent) →
+        end_of_rest caller cs slots result xs ≡ after_piece (end_from caller cs) (through_piece slots (stages_on caller chain rrid xs)) }
+    ensures none { submits result ≡ 0 }
+    ensures tries { 1 ≤ chain.max → AheadHasTries result }
+    ensures valid { caller < 32 → rrid ≤ 63 → IsValidChain chain → IsValidAhead caller result }
+{
+    let Some(unit) = unit_of(&chain.stages, chain.stage) else {
+        return Ahead::Between;
+    };
+    let access = Access {
+        rrid,
+        ..chain.access
+    };
+    let rest = Chain {
+        stage: chain.stage + 1,
+        ..chain
+    };
+    stage(caller, unit, access, rest)
+}
+
+fn slot_of(slots: &[Option<OpenSlot>], slot: u32) -> Option<OpenSlot>
+    ensures { result ≡ slot_of slots.now slot }
+{
+    match slots.get(slot as usize) {
+        Some(open) => *open,
+        None => None,
+    }
+}
+
+/// Up to `tries` judgements of a slot, and none where it isn't open.
+fn settling(caller: u8, slots: &[Option<OpenSlot>], slot: u32, tries: u32) -> Ahead
+    ensures rest { (cs : List Commands) (xs : List LoggedEvent) →
+        end_of_rest caller cs slots.now result xs ≡ after_piece (end_from caller cs) (records.settle_piece caller tries slots.now slot (slot_of slots.now slot) xs) }
+    ensures none { submits result ≡ 0 }
+    ensures tries { AheadHasTries result }
+    ensures valid { caller < 32 → AllByRecursion IsValidSlot slots.now → IsValidAhead caller result }
+{
+    let Some(open) = slot_of(slots, slot) else {
+        return Ahead::Between;
+    };
+    let judgement = Event::Judge {
+        unit: open.unit,
+        caller,
+        place: open.place,
+    };
+    judging(slot, judgement, tries)
+}
+
+fn write_event(caller: u8, unit: u8, index: u32, value: u32) -> Event
+    ensures { result ≡ events.RegWrite unit caller index value }
+{
+    Event::RegWrite {
+        unit,
+        caller,
+        index,
+        value,
+    }
+}
+
+fn read_event(caller: u8, unit: u8, index: u32) -> Event
+    ensures { result ≡ events.RegRead unit caller index }
+{
+    Event::RegRead {
+        unit,
+        caller,
+        index,
+    }
+}
+
+fn alone(event: Event) -> Ahead
+    ensures rest { (caller : ℕ) (cs : List Commands) (slots : List (Option records.OpenSlot)) (xs : List LoggedEvent) →
+        end_of_rest caller cs slots result xs ≡ after_piece (end_from caller cs) (records.one_piece slots (records.first_as event xs)) }
+    ensures none { submits result ≡ 0 }
+    ensures tries { AheadHasTries result }
+    ensures valid { (who : ℕ) → caller_of event ≡ who → IsValidEvent event → IsValidAhead who result }
+{
+    Ahead::Awaiting {
+        event,
+        part: Part::Alone,
+    }
+}
+
+fn submitting(unit: u8, event: Event) -> Ahead
+    ensures rest { (caller : ℕ) (cs : List Commands) (slots : List (Option records.OpenSlot)) (xs : List LoggedEvent) →
+        end_of_rest caller cs slots result xs ≡ after_piece (end_from caller cs) (records.submit_piece slots unit (records.first_as event xs)) }
+    ensures one { submits result ≡ 1 }
+    ensures tries { AheadHasTries result }
+    ensures valid { (who : ℕ) → caller_of event ≡ who → IsValidEvent event → unit < 4 → IsValidAhead who result }
+{
+    Ahead::Awaiting {
+        event,
+        part: Part::Submission { unit },
+    }
+}
+
+/// The Aim of a submission, whose Wide follows.
+fn aiming(caller: u8, unit: u8, access: Access) -> Ahead
+    ensures rest { (cs : List Commands) (slots : List (Option records.OpenSlot)) (xs : List LoggedEvent) →
+        end_of_rest caller cs slots result xs ≡ after_piece (end_from caller cs)
+        (records.submit_piece slots unit (records.second_as (records.wide_event unit caller access) (records.first_as (events.Aim caller access.addr) xs))) }
+    ensures one { submits result ≡ 1 }
+    ensures tries { AheadHasTries result }
+    ensures valid { caller < 32 → unit < 4 → IsValidAccess access → IsValidAhead caller result }
+{
+    Ahead::Awaiting {
+        event: aim_event(caller, access),
+        part: Part::Aiming { unit, access },
+    }
+}
+
+/// A submission of one event or two.
+fn submitting_access(caller: u8, unit: u8, access: Access) -> Ahead
+    ensures rest { (cs : List Commands) (slots : List (Option records.OpenSlot)) (xs : List LoggedEvent) →
+        end_of_rest caller cs slots result xs ≡ after_piece (end_from caller cs) (records.submit_piece slots unit (records.submission_as unit caller access xs)) }
+    ensures one { submits result ≡ 1 }
+    ensures tries { AheadHasTries result }
+    ensures valid { caller < 32 → unit < 4 → IsValidAccess access → IsValidAhead caller result }
+{
+    if access.narrow() {
+        return submitting(unit, submission(caller, unit, access));
+    }
+    aiming(caller, unit, access)
+}
+
+/// What a command begins with: `Between` where it makes no event.
+pub(crate) fn begun_with(caller: u8, command: &Command, slots: &[Option<OpenSlot>]) -> Ahead
+    ensures rest { (cs : List Commands) (xs : List LoggedEvent) → end_of_rest caller cs slots.now result xs ≡ end_from caller (command.now ∷ cs) slots.now xs }
+    ensures submits { submits result ≡ (if is_submit command.now then 1 else 0) }
+    ensures tries { HasTries command.now → AheadHasTries result }
+    ensures valid { caller < 32 → AllByRecursion IsValidSlot slots.now → IsPlayable command.now → IsValidAhead caller result }
+{
+    match *command {
+        Command::Write { unit, index, value } => alone(write_event(caller, unit, index, value)),
+        Command::Read { unit, index } => alone(read_event(caller, unit, index)),
+        Command::Submit { unit, access, .. } => submitting_access(caller, unit, access),
+        Command::Judge { slot } => settling(caller, slots, slot, 1),
+        Command::Settle { slot, max } => settling(caller, slots, slot, max),
+        Command::Until {
+            unit,
+            index,
+            mask,
+            value,
+            max,
+        } => polling(read_event(caller, unit, index), mask, value, max),
+        Command::Through {
+            stages,
+            access,
+            max,
+        } => passing(
+            caller,
+            Chain {
+                stages,
+                stage: 0,
+                access,
+                max,
+            },
+            access.rrid,
+        ),
+    }
+}

@@ -1,0 +1,7 @@
+use Rattle.std.proofs.Common.{◌+◌, arith}
+use Rattle.event_words.specs.declared.register.Register.TheVariants.{SrcmdEn, SrcmdEnh}
+use Rattle.srcmd_formats.proofs.Pairs.{pair_is}
+use Rattle.srcmd_formats.proofs.enables.Goals as goal
+
+pub returns : goal.returns
+returns c = λ m. pair_is c.args.regs.now (SrcmdEn c.args.rrid) (SrcmdEnh c.args.rrid) c.pair.result (m + 1) (omega arith) (c.pair.ensures (m + 1))

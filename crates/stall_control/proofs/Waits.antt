@@ -1,0 +1,172 @@
+-- How many requesters are stalled with something in flight, as one of them changes.
+use Rattle.std.proofs.Common.{◌≡◌, ◌≢◌, ℕ, suc, zero, ◌+◌, ◌<◌, ◌≤◌, Bool, true, false, not, ◌&&◌, ◌||◌, ◌==◌, ltb, ◌/◌, ◌%◌, ◌^◌, replicate, List, [], ◌∷◌, length, ◌++◌, count_by, set, take, arith, refl, sym, ap, ◌∙◌, subst, inl, inr, get_or-set_other, length-set}
+use Rattle.std.specs.List.{range_with_len, list_any}
+use Rattle.std.proofs.lemmas.List.{take-replicate}
+use Rattle.std.proofs.lemmas.List.Sums.{sum_by-cons}
+use Rattle.std.proofs.lemmas.Bool.Decides.{eqb_tells, nat_tests}
+use Rattle.event_words.specs.Stalls.{flag_of, flags_after_rridscp}
+use Rattle.stall_control.specs.Counts.{count_in, is_busy_at, is_busy_with, busy_count, one}
+
+pub by_test : (b : Bool) (P : Type 0) → (b ≡ true → P) → (b ≡ false → P) → P
+by_test true P f g = f refl
+by_test false P f g = g refl
+
+count_cons : (p : ℕ → Bool) (x : ℕ) (xs : List ℕ) → count_by p (x ∷ xs) ≡ one (p x) + count_by p xs
+count_cons p x xs = sum_by-cons (λ y. one (p y)) x xs
+
+by_less : (r n : ℕ) (P : Type 0) → (r < n → P) → (n ≤ r → P) → P
+by_less r n P f g = by_test (ltb r n) P (λ t. f (grind (arith, nat_tests))) (λ t. g (grind (arith, nat_tests)))
+
+-- ---- one changes
+
+counts_alike : (p q : ℕ → Bool) (r a n : ℕ) → ((m : ℕ) → m ≢ r → p m ≡ q m) → r < a → count_by p (range_with_len a n) ≡ count_by q (range_with_len a n)
+counts_alike p q r a zero e l = refl
+counts_alike p q r a (suc n) e l =
+    let i = counts_alike p q r (a + 1) n e (omega arith) in
+    let c = count_cons p a (range_with_len (a + 1) n) in
+    let d = count_cons q a (range_with_len (a + 1) n) in
+    let f : one (p a) ≡ one (q a) = ap (λ b. one b) (e a (λ z. omega arith)) in
+    omega arith
+
+count_change : (p q : ℕ → Bool) (r a n : ℕ) → ((m : ℕ) → m ≢ r → p m ≡ q m) → a ≤ r → r < a + n
+    → count_by p (range_with_len a n) + one (q r) ≡ count_by q (range_with_len a n) + one (p r)
+count_change p q r a zero e l h = absurd (omega arith)
+count_change p q r a (suc n) e l h =
+    let c = count_cons p a (range_with_len (a + 1) n) in
+    let d = count_cons q a (range_with_len (a + 1) n) in
+    elim (eqb_tells a r) [
+      | inl z ↦ (let s = counts_alike p q r (a + 1) n e (omega arith) in
+          let f : one (p a) ≡ one (p r) = ap (λ m. one (p m)) z.1 in
+          let g : one (q a) ≡ one (q r) = ap (λ m. one (q m)) z.1 in
+          omega arith)
+      | inr z ↦ (let i = count_change p q r (a + 1) n e (omega arith) (omega arith) in
+          let f : one (p a) ≡ one (q a) = ap (λ b. one b) (e a z.1) in
+          omega arith)
+    ]
+
+count_small : (p : ℕ → Bool) (a n : ℕ) → count_by p (range_with_len a n) ≤ n
+count_small p a zero = let z : count_by p [] ≡ 0 = refl in omega arith
+count_small p a (suc n) = by_test (p a) _
+    (λ t. let c = count_cons p a (range_with_len (a + 1) n) in let i = count_small p (a + 1) n in let k : one (p a) ≡ 1 = ap (λ b. one b) t in omega arith)
+    (λ t. let c = count_cons p a (range_with_len (a + 1) n) in let i = count_small p (a + 1) n in let k : one (p a) ≡ 0 = ap (λ b. one b) t in omega arith)
+
+pub busy_small : (flags : List Bool) (counts : List ℕ) → busy_count flags counts ≤ length flags
+busy_small flags counts = count_small (is_busy_at flags counts) 0 (length flags)
+
+pub count_change_in : (flags : List Bool) (counts counts' : List ℕ) (r : ℕ) → r < length flags → ((m : ℕ) → m ≢ r → count_in counts m ≡ count_in counts' m)
+    → busy_count flags counts + one (is_busy_at flags counts' r) ≡ busy_count flags counts' + one (is_busy_at flags counts r)
+count_change_in flags counts counts' r l e =
+    count_change (is_busy_at flags counts) (is_busy_at flags counts') r 0 (length flags) (λ m n. ap (λ k. flag_of flags m && not (k == 0)) (e m n)) (omega arith) (omega arith)
+
+-- ---- a count changes
+
+set_past : {X : Type 0} (xs : List X) (r : ℕ) (x : X) → length xs ≤ r → set xs r x ≡ xs
+set_past [] r x l = refl
+set_past (y ∷ ys) zero x l = absurd (omega arith)
+set_past (y ∷ ys) (suc r) x l = ap (λ l. y ∷ l) (set_past ys r x (omega arith))
+
+pub count_put : (flags : List Bool) (counts counts' : List ℕ) (r k : ℕ) → length flags ≡ length counts → counts' ≡ set counts r k
+    → busy_count flags counts + one (is_busy_at flags counts' r) ≡ busy_count flags counts' + one (is_busy_at flags counts r)
+count_put flags counts counts' r k l e = by_less r (length counts) _
+    (λ h. rw e (count_change_in flags counts (set counts r k) r (omega arith) (λ m n. sym (get_or-set_other counts r m k 0 n))))
+    (λ h. let d : counts' ≡ counts = e ∙ set_past counts r k h in rw d refl)
+
+pub flag_put : (flags flags' : List Bool) (counts : List ℕ) (r : ℕ) (f : Bool) → flags' ≡ set flags r f
+    → busy_count flags counts + one (is_busy_at flags' counts r) ≡ busy_count flags' counts + one (is_busy_at flags counts r)
+flag_put flags flags' counts r f e = by_less r (length flags) _
+    (λ h.
+    let n : length flags' ≡ length flags = ap length e ∙ length-set flags r f in
+    let a = count_change (is_busy_at flags counts) (is_busy_at flags' counts) r 0 (length flags)
+    (λ m z. let d : flag_of flags' m ≡ flag_of flags m = ap (λ l. flag_of l m) e ∙ get_or-set_other flags r m f false z in ap (λ k. k && not (count_in counts m == 0)) (sym d)) (omega arith) (omega arith) in
+    let c : busy_count flags' counts ≡ count_by (is_busy_at flags' counts) (range_with_len 0 (length flags)) = ap (λ k. count_by (is_busy_at flags' counts) (range_with_len 0 k)) n in
+    omega arith)
+    (λ h. let d : flags' ≡ flags = e ∙ set_past flags r f h in rw d refl)
+
+pub flags_put : (flags flags' : List Bool) (counts : List ℕ) (value r : ℕ) → r ≡ value % 2 ^ 16 → flags' ≡ flags_after_rridscp flags value
+    → busy_count flags counts + one (is_busy_at flags' counts r) ≡ busy_count flags' counts + one (is_busy_at flags counts r)
+flags_put flags flags' counts value r q e = by_test (value / 2 ^ 30 == 1) _
+    (λ t. flag_put flags flags' counts r true (rw q (rw t at e)))
+    (λ t. by_test (value / 2 ^ 30 == 2) _
+    (λ u. flag_put flags flags' counts r false (rw q (rw u at (rw t at e))))
+    (λ u. let d : flags' ≡ flags = rw u at (rw t at e) in rw d refl))
+
+is_zero : (k : ℕ) → k ≡ 0 → (k == 0) ≡ true
+is_zero k e = elim (eqb_tells k 0) [
+  | inl z ↦ z.0
+  | inr z ↦ absurd (z.1 e)
+]
+
+not_zero : (k : ℕ) → 0 < k → (k == 0) ≡ false
+not_zero k e = elim (eqb_tells k 0) [
+  | inl z ↦ absurd (let y = z.1 in omega arith)
+  | inr z ↦ z.0
+]
+
+pub ticked_not : (f : Bool) (k : ℕ) → f ≡ false → one (f && not (k == 0)) ≡ 0
+ticked_not f k e = rw e refl
+
+-- ---- whether there are some
+
+some_or_none : (p : ℕ → Bool) (xs : List ℕ) → not (count_by p xs == 0) ≡ list_any p xs
+some_or_none p [] = refl
+some_or_none p (x ∷ xs) = by_test (p x) _
+    (λ t. let c = count_cons p x xs in let k : one (p x) ≡ 1 = ap (λ b. one b) t in
+    ap not (not_zero (count_by p (x ∷ xs)) (omega arith)) ∙ sym (ap (λ b. b || list_any p xs) t))
+    (λ t. let c = count_cons p x xs in let k : one (p x) ≡ 0 = ap (λ b. one b) t in
+    let e : count_by p (x ∷ xs) ≡ count_by p xs = omega arith in
+    ap (λ n. not (n == 0)) e ∙ (some_or_none p xs ∙ sym (ap (λ b. b || list_any p xs) t)))
+
+pub busy_is : (flags : List Bool) (counts : List ℕ) (n : ℕ) → n ≡ busy_count flags counts → not (n == 0) ≡ is_busy_with flags counts
+busy_is flags counts n e = ap (λ k. not (k == 0)) e ∙ some_or_none (is_busy_at flags counts) (range_with_len 0 (length flags))
+
+-- ---- none at first
+
+none_busy : (n k a m : ℕ) → count_by (is_busy_at (replicate n false) (replicate k 0)) (range_with_len a m) ≡ 0
+none_busy n k a zero = refl
+none_busy n k a (suc m) =
+    let c = count_cons (is_busy_at (replicate n false) (replicate k 0)) a (range_with_len (a + 1) m) in
+    let i = none_busy n k (a + 1) m in
+    let e : one (is_busy_at (replicate n false) (replicate k 0) a) ≡ 0 = ticked_not (flag_of (replicate n false) a) (count_in (replicate k 0) a) (no_flag n a) in
+    omega arith
+  where
+    no_flag : (n i : ℕ) → flag_of (replicate n false) i ≡ false
+    no_flag zero i = refl
+    no_flag (suc n) zero = refl
+    no_flag (suc n) (suc i) = no_flag n i
+
+-- ---- one more
+
+pub count_append : (p : ℕ → Bool) (a n j : ℕ) → a + n ≡ j → count_by p (range_with_len a (n + 1)) ≡ count_by p (range_with_len a n) + one (p j)
+count_append p a zero j e =
+    let d : a ≡ j = omega arith in
+    let c = count_cons p a [] in
+    let z : count_by p [] ≡ 0 = refl in
+    let f : one (p a) ≡ one (p j) = ap (λ k. one (p k)) d in omega arith
+count_append p a (suc n) j e =
+    let s : suc (n + 1) ≡ suc n + 1 = omega arith in
+    let i = count_append p (a + 1) n j (omega arith) in
+    let c = count_cons p a (range_with_len (a + 1) (n + 1)) in
+    let d = count_cons p a (range_with_len (a + 1) n) in
+    subst (λ k. count_by p (range_with_len a k) ≡ count_by p (range_with_len a (suc n)) + one (p j)) s (omega arith)
+
+pub count_fits : (p : ℕ → Bool) (n w : ℕ) → w ≡ count_by p (range_with_len 0 n) → w ≤ n
+count_fits p n w e = let a = count_small p 0 n in omega arith
+
+-- ---- lists in front of what is left of an array
+
+pub taken : {X : Type 0} (n : ℕ) (xs ys : List X) → n ≡ length xs → take n (xs ++ ys) ≡ xs
+taken n [] ys e = let z : 0 ≡ n = omega arith in subst (λ k. take k ys ≡ []) z refl
+taken n (x ∷ xs) ys e =
+    let z : suc (length xs) ≡ n = omega arith in
+    subst (λ k. take k (x ∷ (xs ++ ys)) ≡ x ∷ xs) z (ap (λ l. x ∷ l) (taken (length xs) xs ys refl))
+
+pub count_facts : (F : List Bool) (C C' new : List ℕ) (r k w : ℕ) (was now : Bool) → length F ≡ length C → w ≡ busy_count F C → was ≡ is_busy_at F C r → now ≡ is_busy_at F C' r → C' ≡ new → new ≡ set C r k
+    → w + one now ≡ busy_count F C' + one was
+count_facts F C C' new r k w was now l e1 e2 e3 e4 e5 = rw (e1, e2, e3) (count_put F C C' r k l (e4 ∙ e5))
+
+pub flag_facts : (F F' new : List Bool) (C : List ℕ) (value r w : ℕ) (was now : Bool) → w ≡ busy_count F C → was ≡ is_busy_at F C r → now ≡ is_busy_at F' C r → F' ≡ new → new ≡ flags_after_rridscp F value → r ≡ value % 2 ^ 16
+    → w + one now ≡ busy_count F' C + one was
+flag_facts F F' new C value r w was now e1 e2 e3 e4 e5 e6 = rw (e1, e2, e3) (flags_put F F' C value r e6 (e4 ∙ e5))
+
+pub start : (n : ℕ) → n ≤ 64 → 0 ≡ busy_count (take n (replicate 64 false)) (take n (replicate 64 0))
+start n h = rw (take-replicate n 64 false h, take-replicate {X = ℕ} n 64 0 h) (sym (none_busy n n 0 (length (replicate n false))))
