@@ -42,7 +42,7 @@ INPUTS = {
     ".sh": (None, (".out",)),
 }
 # A picture, and the words that draw.py draws it by.
-PICTURES = {"docs/live_update.svg": ["examples/updates/grant_writes.sample", "60", "2030"]}
+PICTURES = {"docs/live_update.svg": ["examples/seeds/page_opens.193.report"]}
 LIMIT = 300
 
 

@@ -169,7 +169,7 @@ class Picture:
                 if x >= free:
                     self.add(f'<text x="0" y="0" class="small" transform="translate({x:.1f} {y:.1f}) rotate(-50)">'
                              f'{escape(event.words[1])} = {escape(event.words[2])}</text>')
-                    free = x + 14
+                    free = x + 24
 
     def axis(self):
         y = self.bottom + 14
@@ -223,7 +223,8 @@ def drawn(words):
         report = Report(file.read())
     last = len(report.events) - 1
     first, last = (int(words[1]), min(int(words[2]), last)) if len(words) == 3 else (0, last)
-    name = words[0].rpartition("/")[2].rpartition(".")[0].replace("_", " ")
+    name, _, seed = words[0].rpartition("/")[2].rpartition(".")[0].partition(".")
+    name = name.replace("_", " ") + (f", seed {seed}" if seed else "")
     return Picture(report, first, last, f"{name}: places {first} to {last} of {len(report.events)}").svg()
 
 
