@@ -1,15 +1,16 @@
 -- The first event of a piece, and what is left of the piece after it.
-use Rattle.std.proofs.Common.{◌≡◌, if◌then◌else◌, ℕ, zero, suc, Bool, true, false, not, List, [], ◌∷◌, Option, Some, None, drop, slice_get, refl, sym, ap, ◌∙◌}
+use Rattle.std.proofs.Common.{arith, ◌≡◌, if◌then◌else◌, ℕ, zero, suc, ◌&&◌, nat_lt, Bool, true, false, not, List, [], ◌∷◌, Option, Some, None, drop, slice_get, refl, sym, ap, ◌∙◌}
+use Rattle.std.proofs.lemmas.Bool.Decides.{nat_tests}
 use Rattle.event_words.specs.declared.event.Event.{Event}
 use Rattle.event_words.specs.declared.record.LoggedEvent.{LoggedEvent}
 use Rattle.event_words.specs.declared.section.Command.{Command}
 use Rattle.event_words.specs.Events.{same_event}
 use Rattle.event_words.specs.Sections.{stage_units}
-use Rattle.event_words.specs.Records.{OpenSlot, judgements, polls, stage_judged, one_stage, settled, until_piece, through_piece, through_stages, after_piece, end_from}
+use Rattle.event_words.specs.Records.{OpenSlot, judgements, polls, stage_judged, one_stage, settled, until_piece, through_piece, through_stages, after_piece, end_from, is_held, hits, closed_by}
 use Rattle.section_cursor.specs.declared.ahead.Chain.{Chain}
 use Rattle.section_cursor.specs.declared.ahead.Part.TheVariants.{Polling, StageJudging, Judging}
 use Rattle.section_cursor.specs.declared.ahead.Ahead.TheVariants.{Awaiting}
-use Rattle.section_cursor.specs.Cursors.{end_of_rest, stages_on}
+use Rattle.section_cursor.specs.Cursors.{end_of_rest, end_after, stages_on}
 
 -- a choice inside goes outside
 refused : {A B : Type 0} (C : Option A → Option B) → C None ≡ None → (b : Bool) (y : Option A) → (if b then C y else None) ≡ C (if not b then None else y)
@@ -53,6 +54,58 @@ pub stage_judging_first : (caller : ℕ) (cs : List Command) (slots : List (Opti
 stage_judging_first caller cs slots e tries left chain xs h =
     stage_judging_next caller cs slots e left chain xs
     ∙ ap (λ n. after_piece (end_from caller cs) (through_piece slots (stage_judged (stages_on caller chain) (judgements n e xs)))) h
+
+-- ---- tries that are left
+
+pub positive : (n : ℕ) → nat_lt 0 (suc n) ≡ true
+positive n = grind (arith, nat_tests)
+
+left_to_try : (b : Bool) (left tries : ℕ) → suc left ≡ tries → b ≡ true → (b && nat_lt 0 tries) ≡ true
+left_to_try b left tries t h = rw (h, ← t) (positive left)
+
+-- after a held judgement or a read that misses, with tries left, one try less is left
+pub judging_again : (caller : ℕ) (cs : List Command) (slots : List (Option OpenSlot)) (slot : ℕ) (e : Event) (left tries : ℕ) (x : LoggedEvent) (xs : List LoggedEvent)
+    → suc left ≡ tries → is_held x.reply ≡ true
+    → end_of_rest caller cs slots (Awaiting e (Judging slot left)) xs ≡ end_after caller cs slots e (Judging slot tries) x xs
+judging_again caller cs slots slot e left tries x xs t h =
+    judging_first caller cs slots slot e tries left xs t
+    ∙ ap (λ (b : Bool). after_piece (end_from caller cs) (settled slots slot (if b then judgements tries e xs else Some (x.reply, xs)))) (sym (left_to_try (is_held x.reply) left tries t h))
+
+pub polling_again : (caller : ℕ) (cs : List Command) (slots : List (Option OpenSlot)) (e : Event) (mask value left tries : ℕ) (x : LoggedEvent) (xs : List LoggedEvent)
+    → suc left ≡ tries → hits mask value x.reply ≡ false
+    → end_of_rest caller cs slots (Awaiting e (Polling mask value left)) xs ≡ end_after caller cs slots e (Polling mask value tries) x xs
+polling_again caller cs slots e mask value left tries x xs t h =
+    polling_first caller cs slots e mask value tries left xs t
+    ∙ ap (λ (b : Bool). after_piece (end_from caller cs) (until_piece slots (if b then polls tries e mask value xs else Some (hits mask value x.reply, xs))))
+    (sym (left_to_try (not (hits mask value x.reply)) left tries t (rw h refl)))
+
+pub stage_judging_again : (caller : ℕ) (cs : List Command) (slots : List (Option OpenSlot)) (e : Event) (left tries : ℕ) (chain : Chain) (x : LoggedEvent) (xs : List LoggedEvent)
+    → suc left ≡ tries → is_held x.reply ≡ true
+    → end_of_rest caller cs slots (Awaiting e (StageJudging left chain)) xs ≡ end_after caller cs slots e (StageJudging tries chain) x xs
+stage_judging_again caller cs slots e left tries chain x xs t h =
+    stage_judging_first caller cs slots e tries left chain xs t
+    ∙ ap (λ (b : Bool). after_piece (end_from caller cs) (through_piece slots (stage_judged (stages_on caller chain) (if b then judgements tries e xs else Some (x.reply, xs)))))
+    (sym (left_to_try (is_held x.reply) left tries t h))
+
+-- after the last of several tries
+
+pub judged_last : (caller : ℕ) (cs : List Command) (slots : List (Option OpenSlot)) (slot : ℕ) (e : Event) (left : ℕ) (x : LoggedEvent) (xs : List LoggedEvent)
+    → (is_held x.reply && nat_lt 0 left) ≡ false
+    → end_from caller cs (closed_by x.reply slot slots) xs ≡ end_after caller cs slots e (Judging slot left) x xs
+judged_last caller cs slots slot e left x xs h =
+    ap (λ (b : Bool). after_piece (end_from caller cs) (settled slots slot (if b then judgements left e xs else Some (x.reply, xs)))) (sym h)
+
+pub polled_last : (caller : ℕ) (cs : List Command) (slots : List (Option OpenSlot)) (e : Event) (mask value left : ℕ) (x : LoggedEvent) (xs : List LoggedEvent)
+    → (not (hits mask value x.reply) && nat_lt 0 left) ≡ false
+    → after_piece (end_from caller cs) (until_piece slots (Some (hits mask value x.reply, xs))) ≡ end_after caller cs slots e (Polling mask value left) x xs
+polled_last caller cs slots e mask value left x xs h =
+    ap (λ (b : Bool). after_piece (end_from caller cs) (until_piece slots (if b then polls left e mask value xs else Some (hits mask value x.reply, xs)))) (sym h)
+
+pub stage_judged_last : (caller : ℕ) (cs : List Command) (slots : List (Option OpenSlot)) (e : Event) (left : ℕ) (chain : Chain) (x : LoggedEvent) (xs : List LoggedEvent)
+    → (is_held x.reply && nat_lt 0 left) ≡ false
+    → after_piece (end_from caller cs) (through_piece slots (stage_judged (stages_on caller chain) (Some (x.reply, xs)))) ≡ end_after caller cs slots e (StageJudging left chain) x xs
+stage_judged_last caller cs slots e left chain x xs h =
+    ap (λ (b : Bool). after_piece (end_from caller cs) (through_piece slots (stage_judged (stages_on caller chain) (if b then judgements left e xs else Some (x.reply, xs))))) (sym h)
 
 -- ---- stages
 

@@ -20,6 +20,7 @@ use Rattle.section_cursor.specs.declared.ahead.Chain.{Chain}
 use Rattle.section_cursor.specs.declared.ahead.Part.{Part}
 use Rattle.section_cursor.specs.declared.ahead.Part.TheVariants.{Alone, Submission, Aiming, Judging, Polling, StageAiming, Stage, StageJudging}
 use Rattle.section_cursor.specs.Cursors.{end_after, stages_on, HasTries, PartHasTries}
+use Rattle.section_cursor.proofs.Beginnings.{positive}
 
 -- ---- an event is itself
 
@@ -58,9 +59,6 @@ judged_self n e xs = rw same_self refl
 
 polls_self : (n : ℕ) (e : Event) (mask value : ℕ) (xs : List LoggedEvent) → polls (suc n) e mask value (answer e ∷ xs) ≡ (if nat_lt 0 n then polls n e mask value xs else Some (pair false xs))
 polls_self n e mask value xs = rw same_self refl
-
-positive : (n : ℕ) → nat_lt 0 (suc n) ≡ true
-positive n = grind (arith, nat_tests)
 
 -- reads that all miss
 missed : (n : ℕ) (e : Event) (mask value : ℕ) → (xs : List LoggedEvent) × (polls (suc n) e mask value xs ≡ Some (pair false []))

@@ -1,8 +1,9 @@
 -- How far a caller is in its section: what is left of its record.
-use Rattle.std.specs.Prelude.{◌≡◌, ℕ, ◌+◌, ◌≤◌, ◌&&◌, nat_lt, not, true, List, [], ◌∷◌, ◌++◌, Option, None, Some, IsSome, if◌then◌else◌, drop, count_by}
+use Rattle.std.specs.Prelude.{◌≡◌, ℕ, ◌+◌, ◌≤◌, ◌&&◌, nat_lt, not, Bool, true, false, List, [], ◌∷◌, ◌++◌, Option, None, Some, IsSome, if◌then◌else◌, drop, count_by}
 use Rattle.std.specs.List.{AllByRecursion}
 use Rattle.event_words.specs.declared.event.Event.{Event}
 use Rattle.event_words.specs.declared.event.Event.TheVariants as events
+use Rattle.event_words.specs.declared.reply.Reply.{Reply}
 use Rattle.event_words.specs.declared.record.LoggedEvent.{LoggedEvent}
 use Rattle.event_words.specs.declared.record.SectionEnd.{SectionEnd}
 use Rattle.event_words.specs.declared.section.Command.{Command}
@@ -26,6 +27,13 @@ pub record CursorOf : Type 0 where
 -- the stages that follow, after an allowed verdict
 abbrev pub stages_on : ℕ → Chain → ℕ → List LoggedEvent → Option (List LoggedEvent)
 stages_on caller chain = through_stages caller chain.max chain.access (drop chain.stage (stage_units chain.stages))
+
+-- whether the awaited event is awaited again after this reply
+abbrev pub is_tried_again : Part → Reply → Bool
+is_tried_again (Judging slot left) reply = is_held reply && nat_lt 0 left
+is_tried_again (Polling mask value left) reply = not (hits mask value reply) && nat_lt 0 left
+is_tried_again (StageJudging left chain) reply = is_held reply && nat_lt 0 left
+is_tried_again _ reply = false
 
 -- How the record ends after the awaited event, which came as this.
 abbrev pub end_after : ℕ → List Command → List (Option OpenSlot) → Event → Part → LoggedEvent → List LoggedEvent → Option SectionEnd

@@ -1,20 +1,20 @@
 // What comes after an awaited event.
-ghost use Rattle.std.specs.Prelude.{◌≡◌, ◌<◌, ◌^◌, ◌≤◌, ◌+◌, ◌++◌, ◌∷◌, [], ℕ, List, Option, length, vec_len, vec_capacity};
+ghost use Rattle.std.specs.Prelude.{◌≡◌, ◌<◌, ◌^◌, ◌≤◌, ◌+◌, ◌++◌, ◌∷◌, [], ℕ, List, Option, Some, false, length, vec_len, vec_capacity};
 ghost use Rattle.event_words.specs.declared.event.Event.{Event as Events};
 ghost use Rattle.event_words.specs.declared.record.LoggedEvent.{LoggedEvent as Logged};
 ghost use Rattle.event_words.specs.declared.section.Command.{Command};
 ghost use Rattle.event_words.specs.Records as records;
-ghost use Rattle.event_words.specs.Records.{closed_by, opened_slot};
+ghost use Rattle.event_words.specs.Records.{closed_by, opened_slot, hits, until_piece, stage_judged, through_piece, after_piece, end_from};
 ghost use Rattle.section_cursor.specs.declared.ahead.Part.TheVariants as parts;
 ghost use Rattle.std.specs.List.{AllByRecursion};
 ghost use Rattle.event_words.specs.Events.{caller_of};
 ghost use Rattle.event_words.specs.Valid.{IsValidAccess, IsValidEvent};
 ghost use Rattle.section_cursor.specs.ValidEvents.{IsValidAhead, IsValidChain, IsValidSlot, IsValidPart};
-ghost use Rattle.section_cursor.specs.Cursors.{end_of_rest, end_after, submits, part_submits, AheadHasTries, PartHasTries};
+ghost use Rattle.section_cursor.specs.Cursors.{end_of_rest, end_after, stages_on, is_tried_again, submits, part_submits, AheadHasTries, PartHasTries};
 
 use crate::ahead::{Ahead, Chain, OpenSlot, Part};
-use crate::beginning::{judging, passing, polling, stage_judging, wide_event};
-use crate::replies::{hits, is_aimed, is_held, is_taken, is_verdict, next_requester};
+use crate::beginning::{passing, stage_judging, wide_event};
+use crate::replies::{hits, is_aimed, is_taken, is_verdict, next_requester};
 use event_words::{Access, Event, LoggedEvent, Reply, SectionEnd};
 
 /// A submission that is taken opens its slot.
@@ -39,41 +39,16 @@ fn close(reply: &Reply, slot: u32, slots: &mut [Option<OpenSlot>])
     }
 }
 
-/// After a judgement of a slot.
-fn after_judgement(
-    slots: &mut [Option<OpenSlot>],
-    slot: u32,
-    event: Event,
-    left: u32,
-    logged: &LoggedEvent,
-) -> Ahead
-    ensures rest { (caller : ℕ) (cs : List Command) (xs : List Logged) →
-        end_of_rest caller cs slots.new result xs ≡ end_after caller cs slots.old event (parts.Judging slot left) logged.now xs }
-    ensures none { submits result ≡ 0 }
-    ensures tries { AheadHasTries result }
-    ensures valid { (who : ℕ) → caller_of event ≡ who → IsValidEvent event → IsValidAhead who result }
-    ensures slots { AllByRecursion IsValidSlot slots.old → AllByRecursion IsValidSlot slots.new }
-{
-    if is_held(&logged.reply) && left > 0 {
-        return judging(slot, event, left);
-    }
-    close(&logged.reply, slot, slots);
-    Ahead::Between
-}
-
-/// After a read that is repeated until it hits.
-fn after_poll(event: Event, mask: u32, value: u32, left: u32, logged: &LoggedEvent) -> Ahead
+/// After the last read of those that are repeated until one hits.
+fn after_polls(mask: u32, value: u32, logged: &LoggedEvent) -> Ahead
     ensures rest { (caller : ℕ) (cs : List Command) (slots : List (Option records.OpenSlot)) (xs : List Logged) →
-        end_of_rest caller cs slots result xs ≡ end_after caller cs slots event (parts.Polling mask value left) logged.now xs }
+        end_of_rest caller cs slots result xs ≡ after_piece (end_from caller cs) (until_piece slots (Some (hits mask value logged.now.reply, xs))) }
     ensures none { submits result ≡ 0 }
     ensures tries { AheadHasTries result }
-    ensures valid { (who : ℕ) → caller_of event ≡ who → IsValidEvent event → IsValidAhead who result }
+    ensures valid { (who : ℕ) → IsValidAhead who result }
 {
     if hits(mask, value, &logged.reply) {
         return Ahead::Between;
-    }
-    if left > 0 {
-        return polling(event, mask, value, left);
     }
     Ahead::Ended {
         end: SectionEnd::Stopped,
@@ -134,45 +109,36 @@ fn after_stage(caller: u8, unit: u8, chain: Chain, logged: &LoggedEvent) -> Ahea
     stage_judging(judgement, chain.max, chain)
 }
 
-/// After a judgement of a stage's submission.
-fn after_stage_judgement(
-    caller: u8,
-    event: Event,
-    left: u32,
-    chain: Chain,
-    logged: &LoggedEvent,
-) -> Ahead
+/// After the last judgement of a stage's submission.
+fn after_stage_judgements(caller: u8, chain: Chain, logged: &LoggedEvent) -> Ahead
     ensures rest { (cs : List Command) (slots : List (Option records.OpenSlot)) (xs : List Logged) →
-        end_of_rest caller cs slots result xs ≡ end_after caller cs slots event (parts.StageJudging left chain) logged.now xs }
+        end_of_rest caller cs slots result xs ≡ after_piece (end_from caller cs) (through_piece slots (stage_judged (stages_on caller chain) (Some (logged.now.reply, xs)))) }
     ensures none { submits result ≡ 0 }
     ensures tries { 1 ≤ chain.max → AheadHasTries result }
-    ensures valid { caller < 32 → caller_of event ≡ caller → IsValidEvent event → IsValidChain chain → IsValidAhead caller result }
+    ensures valid { caller < 32 → IsValidChain chain → IsValidAhead caller result }
 {
-    if is_held(&logged.reply) && left > 0 {
-        return stage_judging(event, left, chain);
-    }
     match next_requester(&logged.reply) {
         Some(rrid) => passing(caller, chain, rrid),
         None => Ahead::Between,
     }
 }
 
-/// What comes after the awaited event, which came as this one. A submission adds its slot, for which
-/// there must be room.
+/// What comes after the awaited event, which came as this one and isn't tried again. A submission adds
+/// its slot, for which there must be room.
 pub(crate) fn ahead_after(
     caller: u8,
     slots: &mut Vec<Option<OpenSlot>>,
-    event: Event,
     part: Part,
     logged: &LoggedEvent,
 ) -> Ahead
+    requires last { is_tried_again part logged.now.reply ≡ false }
     requires room { vec_len slots.old + part_submits part ≤ vec_capacity slots.old }
-    ensures rest { (cs : List Command) (xs : List Logged) →
+    ensures rest { (event : Events) (cs : List Command) (xs : List Logged) →
         end_of_rest caller cs slots.new.items result xs ≡ end_after caller cs slots.old.items event part logged.now xs }
     ensures tries { PartHasTries part → AheadHasTries result }
     ensures count { vec_len slots.new + submits result ≡ vec_len slots.old + part_submits part }
     ensures capacity { vec_capacity slots.new ≡ vec_capacity slots.old }
-    ensures valid { caller < 32 → logged.now.place < 2 ^ 24 → caller_of event ≡ caller → IsValidEvent event → IsValidPart part → IsValidAhead caller result }
+    ensures valid { caller < 32 → logged.now.place < 2 ^ 24 → IsValidPart part → IsValidAhead caller result }
     ensures slots { logged.now.place < 2 ^ 24 → IsValidPart part → AllByRecursion IsValidSlot slots.old.items → AllByRecursion IsValidSlot slots.new.items }
 {
     match part {
@@ -182,14 +148,15 @@ pub(crate) fn ahead_after(
             Ahead::Between
         }
         Part::Aiming { unit, access } => after_aim(caller, unit, access),
-        Part::Judging { slot, left } => { after_judgement(slots, slot, event, left, logged) }
-        Part::Polling { mask, value, left } => after_poll(event, mask, value, left, logged),
+        Part::Judging { slot, .. } => {
+            close(&logged.reply, slot, slots);
+            Ahead::Between
+        }
+        Part::Polling { mask, value, .. } => after_polls(mask, value, logged),
         Part::StageAiming { unit, rrid, chain } => {
             after_stage_aim(caller, unit, rrid, chain, logged)
         }
         Part::Stage { unit, chain } => after_stage(caller, unit, chain, logged),
-        Part::StageJudging { left, chain } => {
-            after_stage_judgement(caller, event, left, chain, logged)
-        }
+        Part::StageJudging { chain, .. } => after_stage_judgements(caller, chain, logged),
     }
 }
