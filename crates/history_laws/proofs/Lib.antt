@@ -1,4 +1,5 @@
 pub mod AimLaw
+pub mod NothingFoundLaw
 pub mod QueueLaw
 pub mod WindowLaw
 pub mod TicketSteps

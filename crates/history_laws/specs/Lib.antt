@@ -1,5 +1,6 @@
 pub mod Queues
 pub mod Aims
+pub mod NothingFound
 pub mod Windows
 pub mod Guards
 pub mod Tickets

@@ -1,7 +1,8 @@
-//! Laws over every history of the units, from reset on.
+//! Laws over histories of the units, from reset on.
 //!
-//! Each law is the clause of a function that takes and answers nothing. It speaks of every list of valid
-//! shapes and of every list of events, in any order and by any callers.
+//! Each law is the clause of a function that takes and answers nothing. Most speak of every list of events, in
+//! any order and by any callers, on units of any shapes; those on guards, of units with valid shapes. One speaks
+//! of a single step of any state, and the last five of the sections of scripts and of their histories.
 #![tactic(auto)]
 
 ghost use Rattle.history_laws.specs.Queues.{LawQueued};
@@ -16,6 +17,7 @@ ghost use Rattle.history_laws.specs.Live.{LawLive};
 ghost use Rattle.history_laws.specs.EqualReports.{LawReports};
 ghost use Rattle.history_laws.specs.Unwritten.{LawUnwritten};
 ghost use Rattle.history_laws.specs.Aims.{LawAims};
+ghost use Rattle.history_laws.specs.NothingFound.{LawNoSuch};
 
 /// In every state each queued submission has a known, stalled requester, and a queue has at most its
 /// size.
@@ -48,6 +50,13 @@ pub fn law_verdicts()
 /// Before each place a caller aims at the address of its last Aim, and at 0 where it made none.
 pub fn law_aims()
     ensures { LawAims }
+{}
+
+/// A word is answered `NoSuch` exactly where it is no event's, its unit isn't there, it judges no submission of
+/// its caller that is open on the unit, or it is a wide submission that would end past the last address.
+/// Nothing changes then.
+pub fn law_no_such()
+    ensures { LawNoSuch }
 {}
 
 /// What a program may promise of each of its histories: no verdict in a drained window, `Busy` only where
