@@ -29,6 +29,9 @@ pub mod Unstalled
 pub mod BootWrites
 pub mod PlanParts
 pub mod LivePlaces
+pub mod VerdictKinds
+pub mod UpdateWrites
+pub mod StalledUpdate
 pub mod LiveLaw
 pub mod TableRewrites
 pub mod LiveUpdate

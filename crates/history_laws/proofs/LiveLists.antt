@@ -161,10 +161,11 @@ writes_zero c (w ∷ ws) (x ∷ xs) h =
     let rest : map event_of xs ≡ map (write_by c) ws = cc in
     (subst IsOnZero (sym e) refl, writes_zero c ws xs rest)
 
-plan_zero : (tables : List RegPair) (xs : List LoggedEvent) → IsPlanRecord tables xs → AllByRecursion IsLoggedOnZero xs
-plan_zero tables xs r =
+plan_zero : (stalls tables : List RegPair) (xs : List LoggedEvent) → IsPlanRecord stalls tables xs → AllByRecursion IsLoggedOnZero xs
+plan_zero stalls tables xs r =
     subst (AllByRecursion IsLoggedOnZero) (sym r.is)
-    (subst IsOnZero (sym r.stalls) refl, all_both IsLoggedOnZero r.reads r.rest (all_of IsDrainRead IsLoggedOnZero r.reads (λ x e. subst IsOnZero (sym e) tt) r.events) (ending r.rest r.ends))
+    (all_both IsLoggedOnZero r.first (r.reads ++ r.rest) (writes_zero 1 stalls r.first r.stalling)
+    (all_both IsLoggedOnZero r.reads r.rest (all_of IsDrainRead IsLoggedOnZero r.reads (λ x e. subst IsOnZero (sym e) tt) r.events) (ending r.rest r.ends)))
   where
     ending : {A B : Type 0} (rest : List LoggedEvent) → (A × (rest ≡ [])) ⊎ (B × (map event_of rest ≡ map (write_by 1) (tables ++ free ∷ []))) → AllByRecursion IsLoggedOnZero rest
     ending rest (inl e) = subst (AllByRecursion IsLoggedOnZero) (sym e.1) tt
@@ -172,12 +173,12 @@ plan_zero tables xs r =
 
 -- ---- together
 
-pub record IsLive (old tables : List RegPair) (xs : List LoggedEvent) : Type 0 where
+pub record IsLive (old stalls tables : List RegPair) (xs : List LoggedEvent) : Type 0 where
   pub boot : List LoggedEvent
   pub others : List LoggedEvent
   pub is : xs ≡ boot ++ others
   pub boot_events : map event_of boot ≡ map (write_by 0) old
-  pub own : IsPlanRecord tables (events_by 1 others)
+  pub own : IsPlanRecord stalls tables (events_by 1 others)
   pub quiet : AllByRecursion (λ x. is_by 1 x ≡ false → WritesNothing x) others
   pub on_zero : AllByRecursion IsLoggedOnZero xs
 
@@ -189,16 +190,16 @@ on_zero_by xs quiet own =
     by x true e f g = g e
     by x false e f g = quiet_zero x.event (f e)
 
-pub live_list : (shapes : List Shape) (old tables : List RegPair) (polls : ℕ) (boot plan : SectionOf) (lanes : List SectionOf) (words : List ℕ)
-    → boot.commands ≡ map write_command old → plan.commands ≡ plan_of tables polls → AllByRecursion IsQuietSection lanes
-    → IsLegalHistory shapes boot (plan ∷ lanes) words → IsLive old tables (logged_in shapes words)
-live_list shapes old tables polls boot plan lanes words b p q legal =
+pub live_list : (shapes : List Shape) (old stalls tables : List RegPair) (polls : ℕ) (boot plan : SectionOf) (lanes : List SectionOf) (words : List ℕ)
+    → boot.commands ≡ map write_command old → plan.commands ≡ plan_of stalls tables polls → AllByRecursion IsQuietSection lanes
+    → IsLegalHistory shapes boot (plan ∷ lanes) words → IsLive old stalls tables (logged_in shapes words)
+live_list shapes old stalls tables polls boot plan lanes words b p q legal =
     let h = logged_halves (suc (length lanes)) shapes words legal.events legal.order in
     let booted = some_of (end_from 0 boot.commands [] (events_by 0 (logged_in shapes words))) legal.boot_record in
     let planned = some_of (end_from 1 plan.commands [] (events_by 1 (logged_in shapes words))) legal.lane_records.0 in
     let first = writes_record 0 old [] (events_by 0 (logged_in shapes words)) booted.0 (subst (λ cs. end_from 0 cs [] (events_by 0 (logged_in shapes words)) ≡ Some booted.0) b booted.1) in
-    let own = plan_record tables polls [] (events_by 1 (logged_in shapes words)) planned.0 (subst (λ cs. end_from 1 cs [] (events_by 1 (logged_in shapes words)) ≡ Some planned.0) p planned.1) in
-    let mine = subst (IsPlanRecord tables) (own_others (suc (length lanes)) (logged_in shapes words) h) own in
+    let own = plan_record stalls tables polls [] (events_by 1 (logged_in shapes words)) planned.0 (subst (λ cs. end_from 1 cs [] (events_by 1 (logged_in shapes words)) ≡ Some planned.0) p planned.1) in
+    let mine = subst (IsPlanRecord stalls tables) (own_others (suc (length lanes)) (logged_in shapes words) h) own in
     let events : map event_of h.boot ≡ map (write_by 0) old = ap (map event_of) (sym (own_boot (suc (length lanes)) (logged_in shapes words) h)) ∙ first in
     let silent = others_quiet (length lanes) (logged_in shapes words) h (lanes_quiet (logged_in shapes words) 2 lanes legal.lane_records.1 q) in
     record {
@@ -208,5 +209,5 @@ live_list shapes old tables polls boot plan lanes words b p q legal =
       boot_events = events;
       own = mine;
       quiet = silent;
-      on_zero = subst (AllByRecursion IsLoggedOnZero) (sym h.is) (all_both IsLoggedOnZero h.boot h.others (writes_zero 0 old h.boot events) (on_zero_by h.others silent (plan_zero tables (events_by 1 h.others) mine)));
+      on_zero = subst (AllByRecursion IsLoggedOnZero) (sym h.is) (all_both IsLoggedOnZero h.boot h.others (writes_zero 0 old h.boot events) (on_zero_by h.others silent (plan_zero stalls tables (events_by 1 h.others) mine)));
     }

@@ -19,11 +19,11 @@ use Rattle.policy_compiler.specs.declared.image.RegPair.{RegPair}
 use Rattle.unit_core.specs.Histories.{History, event_at, reply_at, history_of, logged_in}
 use Rattle.unit_core.specs.Updates.{ReadsDrained, IsDrainedReading}
 use Rattle.history_laws.proofs.WordHistories.{is_entry, has_entry}
-use Rattle.history_laws.proofs.QuietRecords.{WritesNothing, IsNoWrite}
+use Rattle.history_laws.proofs.QuietRecords.{WritesNothing}
 use Rattle.history_laws.proofs.Writes.{writes, all_get, get_append, get_low}
-use Rattle.history_laws.proofs.WriteRecords.{write_by, event_of, same_read}
+use Rattle.history_laws.proofs.WriteRecords.{event_of, same_read}
 use Rattle.history_laws.proofs.LiveLists.{IsLive, events_logged}
-use Rattle.history_laws.proofs.PlanParts.{writes_in, writes_both, writes_by, of_one, own_before, NotDrained}
+use Rattle.history_laws.proofs.PlanParts.{writes_in, writes_both, writes_by, of_one, own_before, NotDrained, loud}
 
 -- ---- a history and its list
 
@@ -115,23 +115,15 @@ not_drained h xs log k x e none read = by (hits 1 0 x.reply) refl
 
 -- ---- past the boot section
 
-loud : (c : ℕ) (ws : List RegPair) (xs : List LoggedEvent) → map event_of xs ≡ map (write_by c) ws → AllByRecursion (λ x. WritesNothing x → ⊥) xs
-loud c ws [] h = tt
-loud c [] (x ∷ xs) h = absurd (let n : x.event ∷ map event_of xs ≡ [] = h in cc)
-loud c (w ∷ ws) (x ∷ xs) h =
-    let e : x.event ≡ write_by c w = cc in
-    let rest : map event_of xs ≡ map (write_by c) ws = cc in
-    (λ q. subst IsNoWrite e q, loud c ws xs rest)
-
 -- An event that writes nothing stands after the boot section.
-pub past_boot : (old tables : List RegPair) (xs : List LoggedEvent) (v : IsLive old tables xs) (k : ℕ) (x : LoggedEvent) → slice_get xs k ≡ Some x → WritesNothing x → length v.boot ≤ k
-past_boot old tables xs v k x e q = ⊎_elim
+pub past_boot : (old stalls tables : List RegPair) (xs : List LoggedEvent) (v : IsLive old stalls tables xs) (k : ℕ) (x : LoggedEvent) → slice_get xs k ≡ Some x → WritesNothing x → length v.boot ≤ k
+past_boot old stalls tables xs v k x e q = ⊎_elim
     (λ (low : k < length v.boot). absurd (all_get (λ x. WritesNothing x → ⊥) v.boot k x (loud 0 old v.boot v.boot_events) (sym (get_low v.boot v.others k low) ∙ (ap (λ ys. slice_get ys k) (sym v.is) ∙ e)) q))
     (λ (high : length v.boot ≤ k). high)
     (cases_lt k (length v.boot))
 
-pub among_others : (old tables : List RegPair) (xs : List LoggedEvent) (v : IsLive old tables xs) (m : ℕ) → slice_get xs (length v.boot + m) ≡ slice_get v.others m
-among_others old tables xs v m = ap (λ ys. slice_get ys (length v.boot + m)) v.is ∙ get_append v.boot v.others m
+pub among_others : (old stalls tables : List RegPair) (xs : List LoggedEvent) (v : IsLive old stalls tables xs) (m : ℕ) → slice_get xs (length v.boot + m) ≡ slice_get v.others m
+among_others old stalls tables xs v m = ap (λ ys. slice_get ys (length v.boot + m)) v.is ∙ get_append v.boot v.others m
 
 all_taken : {A : Type 0} (P : A → Type 0) (xs : List A) (m : ℕ) → AllByRecursion P xs → AllByRecursion P (take m xs)
 all_taken P [] zero h = tt
@@ -140,16 +132,16 @@ all_taken P (x ∷ xs) zero h = tt
 all_taken P (x ∷ xs) (suc m) h = (h.0, all_taken P xs m h.1)
 
 -- The writes before a place: the old image's, and those of the plan up to there.
-pub writes_upto : (old tables : List RegPair) (xs : List LoggedEvent) (v : IsLive old tables xs) (m : ℕ) → writes_in (take (length v.boot + m) xs) ≡ old ++ writes_in (own_before m v.others)
-writes_upto old tables xs v m =
+pub writes_upto : (old stalls tables : List RegPair) (xs : List LoggedEvent) (v : IsLive old stalls tables xs) (m : ℕ) → writes_in (take (length v.boot + m) xs) ≡ old ++ writes_in (own_before m v.others)
+writes_upto old stalls tables xs v m =
     ap (λ ys. writes_in (take (length v.boot + m) ys)) v.is
     ∙ (ap writes_in (take-append-add v.boot v.others m)
     ∙ (writes_both v.boot (take m v.others)
     ∙ (ap (λ ws. ws ++ writes_in (take m v.others)) (ap writes v.boot_events ∙ writes_by 0 old)
     ∙ ap (λ ws. old ++ ws) (of_one (take m v.others) (all_taken (λ x. is_by 1 x ≡ false → WritesNothing x) v.others m v.quiet)))))
 
-pub writes_whole : (old tables : List RegPair) (xs : List LoggedEvent) (v : IsLive old tables xs) → writes_in xs ≡ old ++ writes_in (events_by 1 v.others)
-writes_whole old tables xs v =
+pub writes_whole : (old stalls tables : List RegPair) (xs : List LoggedEvent) (v : IsLive old stalls tables xs) → writes_in xs ≡ old ++ writes_in (events_by 1 v.others)
+writes_whole old stalls tables xs v =
     ap writes_in v.is
     ∙ (writes_both v.boot v.others
     ∙ (ap (λ ws. ws ++ writes_in v.others) (ap writes v.boot_events ∙ writes_by 0 old)

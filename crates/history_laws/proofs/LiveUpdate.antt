@@ -1,5 +1,5 @@
 -- The law of a live update.
-use Rattle.std.proofs.Common.{◌≡◌, ℕ, List, [], ◌∷◌, Option, Some, None, refl, sym, ap, ◌∙◌}
+use Rattle.std.proofs.Common.{◌≡◌, ℕ, List, [], ◌∷◌, Option, Some, None, inl, arith, refl, sym, ap, ◌∙◌}
 use Rattle.std.specs.Prelude.{slice_get, option_and_then}
 use Rattle.std.specs.List.{AllByRecursion}
 use Rattle.event_words.specs.declared.shape.Shape.{Shape}
@@ -19,6 +19,7 @@ use Rattle.unit_core.proofs.Steps.{taken_valid}
 use Rattle.history_laws.specs.Live.{LawLive}
 use Rattle.history_laws.proofs.WordHistories.{events_at_words, event_at_words, word_at_place}
 use Rattle.unit_core.proofs.Runs.{submit_of}
+use Rattle.history_laws.proofs.WriteRecords.{stall}
 use Rattle.history_laws.proofs.LiveLists.{live_list}
 use Rattle.history_laws.proofs.LivePlaces.{log_of}
 use Rattle.history_laws.proofs.LiveLaw.{keeps_policies}
@@ -45,18 +46,20 @@ valid_access shapes words all k caller a q = by (slice_get words k) refl
 
 pub law_live : LawLive
 law_live old new polls lanes words l =
-    let live = live_list (old.shape ∷ []) (image_of old).writes (tables_between (image_of old) (image_of new)) polls (image_section (image_of old)) (section_with (plan_commands (image_of old) (image_of new) polls)) lanes words
+    let live = live_list (old.shape ∷ []) (image_of old).writes (stall ∷ []) (tables_between (image_of old) (image_of new)) polls (image_section (image_of old)) (section_with (plan_commands (image_of old) (image_of new) polls)) lanes words
     refl (plan_is (image_of old) (image_of new) polls) l.quiet l.legal in
-    keeps_policies old new (tables_between (image_of old) (image_of new)) (history_of (old.shape ∷ []) words) (logged_in (old.shape ∷ []) words)
+    keeps_policies old new (stall ∷ []) (tables_between (image_of old) (image_of new)) (history_of (old.shape ∷ []) words) (logged_in (old.shape ∷ []) words)
     (record {
       good_old = l.old_policy;
       good_new = l.new_policy;
       same_shape = l.shapes;
       fits_old = l.old_fits;
       fits_new = l.new_fits;
+      stalling = (inl (refl, omega arith), tt);
       rewrites = rewrites_between old new l.old_policy l.new_policy l.shapes l.old_fits l.new_fits;
       live = live;
       log = log_of (old.shape ∷ []) words l.legal.events;
       unit = refl;
       accesses = valid_access (old.shape ∷ []) words l.legal.events;
     })
+    (λ s. refl)

@@ -1,19 +1,20 @@
 -- What a part of a plan's record writes.
-use Rattle.std.proofs.Common.{◌≡◌, ℕ, zero, suc, ◌≤◌, ◌++◌, inl, inr, ◌⊎◌, Bool, true, false, cond, List, [], ◌∷◌, Some, None, map, filter, take, drop, refl, sym, ap, subst, ◌∙◌, arith}
+use Rattle.std.proofs.Common.{◌≡◌, ℕ, zero, suc, ◌≤◌, ◌++◌, ◌==◌, inl, inr, ◌⊎◌, Bool, true, false, cond, List, [], ◌∷◌, Some, None, map, filter, take, drop, refl, sym, ap, subst, ◌∙◌, arith}
 use Rattle.std.specs.Prelude.{slice_get}
 use Rattle.std.specs.List.{AllByRecursion}
-use Rattle.std.proofs.lemmas.Bool.{ne_eqb}
+use Rattle.std.proofs.lemmas.Bool.{ne_eqb, cond-false}
 use Rattle.std.proofs.lemmas.List.{take-append-drop}
 use Rattle.std.proofs.lemmas.List.Elements.{filter-append}
 use Rattle.event_words.specs.declared.event.Event.{Event}
-use Rattle.event_words.specs.declared.event.Event.TheVariants.{RegWrite, RegRead}
+use Rattle.event_words.specs.declared.event.Event.TheVariants.{RegWrite}
 use Rattle.event_words.specs.declared.record.LoggedEvent.{LoggedEvent}
 use Rattle.event_words.specs.Records.{hits, events_by, is_by}
 use Rattle.policy_compiler.specs.declared.image.RegPair.{RegPair}
 use Rattle.policy_compiler.proofs.Standing.{value_from}
 use Rattle.history_laws.proofs.QuietRecords.{IsNoWrite, WritesNothing}
-use Rattle.history_laws.proofs.Writes.{write_of, writes, writes_append, append_nothing}
-use Rattle.history_laws.proofs.WriteRecords.{write_by, event_of, IsDrainRead, Misses, HasHit, IsPlanRecord, stall, free}
+use Rattle.history_laws.proofs.Writes.{write_of, writes, writes_append, append_nothing, nothing_after, all_parts, CutInFirst, CutInSecond, two_cuts}
+use Rattle.history_laws.proofs.WriteRecords.{write_by, event_of, IsDrainRead, Misses, HasHit, PlanEnds, IsPlanRecord, free}
+use Rattle.history_laws.proofs.UnitStands.{flag_from}
 
 -- ---- writes of logged events
 
@@ -77,18 +78,16 @@ own_here zero (y ∷ xs) x h e =
     ap (λ z. events_by 1 (z ∷ xs)) same ∙ ap (λ b. cond b (x ∷ filter (is_by 1) xs) (filter (is_by 1) xs)) e
 own_here (suc m) (y ∷ xs) x h e = own_here m xs x h e
 
-longer_before : (m n : ℕ) (xs : List LoggedEvent) → m ≤ n → own_before n xs ≡ [] → own_before m xs ≡ []
-longer_before zero n xs l e = refl
-longer_before (suc m) zero xs l e = absurd (omega arith)
-longer_before (suc m) (suc n) [] l e = refl
-longer_before (suc m) (suc n) (x ∷ xs) l e = by (is_by 1 x) (λ q. longer_before m n xs (omega arith) q) e
+-- the events up to a later place are more
+pub before_longer : (m n : ℕ) (xs : List LoggedEvent) → m ≤ n → (ys : List LoggedEvent) × (own_before n xs ≡ own_before m xs ++ ys)
+before_longer zero n xs l = (own_before n xs, refl)
+before_longer (suc m) zero xs l = absurd (omega arith)
+before_longer (suc m) (suc n) [] l = ([], refl)
+before_longer (suc m) (suc n) (x ∷ xs) l = by (is_by 1 x) (before_longer m n xs (omega arith))
   where
-    by : (b : Bool) → (own_before n xs ≡ [] → own_before m xs ≡ []) → cond b (x ∷ own_before n xs) (own_before n xs) ≡ [] → cond b (x ∷ own_before m xs) (own_before m xs) ≡ []
-    by true again e = absurd (let n : x ∷ own_before n xs ≡ [] = e in cc)
-    by false again e = again e
-
-pub still_some : (m n : ℕ) (xs : List LoggedEvent) → m ≤ n → (own_before m xs ≡ [] → ⊥) → own_before n xs ≡ [] → ⊥
-still_some m n xs l ne e = ne (longer_before m n xs l e)
+    by : (b : Bool) → (ys : List LoggedEvent) × (own_before n xs ≡ own_before m xs ++ ys) → (ys : List LoggedEvent) × (cond b (x ∷ own_before n xs) (own_before n xs) ≡ cond b (x ∷ own_before m xs) (own_before m xs) ++ ys)
+    by true more = (more.0, ap (λ zs. x ∷ zs) more.1)
+    by false more = more
 
 -- a write from a place on
 pub write_there : (m n : ℕ) (xs : List LoggedEvent) (x : LoggedEvent) (w : RegPair) → m ≤ n → slice_get xs n ≡ Some x → is_by 1 x ≡ true → write_of x.event ≡ w ∷ [] → writes_in (own_from m xs) ≡ [] → ⊥
@@ -99,10 +98,6 @@ write_there zero zero (y ∷ xs) x w l h e v z =
     absurd (cc)
 write_there zero (suc n) (y ∷ xs) x w l h e v z = by (is_by 1 y) (λ q. write_there zero n xs x w (omega arith) h e v q) z
   where
-    nothing_after : (vs ws : List RegPair) → vs ++ ws ≡ [] → ws ≡ []
-    nothing_after [] ws e = e
-    nothing_after (v ∷ vs) ws e = absurd (let n : v ∷ (vs ++ ws) ≡ [] = e in cc)
-
     by : (b : Bool) → (writes_in (events_by 1 xs) ≡ [] → ⊥) → writes_in (cond b (y ∷ events_by 1 xs) (events_by 1 xs)) ≡ [] → ⊥
     by true again z = again (nothing_after (write_of y.event) (writes_in (events_by 1 xs)) z)
     by false again z = again z
@@ -111,21 +106,26 @@ write_there (suc m) (suc n) (y ∷ xs) x w l h e v z = write_there m n xs x w (o
 
 -- ---- a plan's record
 
-abbrev pub IsUpdate : List RegPair → List RegPair → Type 0
-IsUpdate tables ws = (ws ≡ stall ∷ []) ⊎ (ws ≡ stall ∷ (tables ++ free ∷ []))
+-- its writes: the stalls alone, or all
+abbrev pub IsUpdate : List RegPair → List RegPair → List RegPair → Type 0
+IsUpdate stalls tables ws = (ws ≡ stalls) ⊎ (ws ≡ stalls ++ (tables ++ free ∷ []))
 
-record_writes : (tables : List RegPair) (r : List LoggedEvent) (p : IsPlanRecord tables r) → writes_in r ≡ stall ∷ writes_in p.rest
-record_writes tables r p =
+stalls_written : (stalls tables : List RegPair) (r : List LoggedEvent) (p : IsPlanRecord stalls tables r) → writes_in p.first ≡ stalls
+stalls_written stalls tables r p = ap writes p.stalling ∙ writes_by 1 stalls
+
+record_writes : (stalls tables : List RegPair) (r : List LoggedEvent) (p : IsPlanRecord stalls tables r) → writes_in r ≡ stalls ++ writes_in p.rest
+record_writes stalls tables r p =
     ap writes_in p.is
-    ∙ (ap (λ e. write_of e ++ writes_in (p.reads ++ p.rest)) p.stalls
-    ∙ ap (λ ws. stall ∷ ws) (writes_both p.reads p.rest ∙ ap (λ ws. ws ++ writes_in p.rest) (reads_nothing p.reads p.events)))
+    ∙ (writes_both p.first (p.reads ++ p.rest)
+    ∙ (ap (λ ws. ws ++ writes_in (p.reads ++ p.rest)) (stalls_written stalls tables r p)
+    ∙ ap (λ ws. stalls ++ ws) (writes_both p.reads p.rest ∙ ap (λ ws. ws ++ writes_in p.rest) (reads_nothing p.reads p.events))))
 
-pub plan_writes : (tables : List RegPair) (r : List LoggedEvent) → IsPlanRecord tables r → IsUpdate tables (writes_in r)
-plan_writes tables r p = ending p.rest p.ends (record_writes tables r p)
+pub plan_writes : (stalls tables : List RegPair) (r : List LoggedEvent) → IsPlanRecord stalls tables r → IsUpdate stalls tables (writes_in r)
+plan_writes stalls tables r p = ending p.rest p.ends (record_writes stalls tables r p)
   where
-    ending : {A B : Type 0} (rest : List LoggedEvent) → (A × (rest ≡ [])) ⊎ (B × (map event_of rest ≡ map (write_by 1) (tables ++ free ∷ []))) → writes_in r ≡ stall ∷ writes_in rest → IsUpdate tables (writes_in r)
-    ending rest (inl e) w = inl (w ∙ ap (λ ys. stall ∷ writes_in ys) e.1)
-    ending rest (inr e) w = inr (w ∙ ap (λ es. stall ∷ es) (ap writes e.1 ∙ writes_by 1 (tables ++ free ∷ [])))
+    ending : {A B : Type 0} (rest : List LoggedEvent) → (A × (rest ≡ [])) ⊎ (B × (map event_of rest ≡ map (write_by 1) (tables ++ free ∷ []))) → writes_in r ≡ stalls ++ writes_in rest → IsUpdate stalls tables (writes_in r)
+    ending rest (inl e) w = inl (w ∙ (ap (λ ys. stalls ++ writes_in ys) e.1 ∙ append_nothing stalls))
+    ending rest (inr e) w = inr (w ∙ ap (λ es. stalls ++ es) (ap writes e.1 ∙ writes_by 1 (tables ++ free ∷ [])))
 
 -- ---- before the drained reading
 
@@ -151,51 +151,93 @@ only_reads (y ∷ reads) rest (x ∷ q) z e r ends n =
     ending m (inr (inl hit)) = absurd (let n : false ≡ true = sym m ∙ hit in cc)
     ending m (inr (inr hit)) = inr hit
 
-pub before_reading : (tables : List RegPair) (r q z : List LoggedEvent) → IsPlanRecord tables r → q ++ z ≡ r → AllByRecursion NotDrained q → (writes_in q ≡ []) ⊎ (writes_in q ≡ stall ∷ [])
-before_reading tables r [] z p e n = inl refl
-before_reading tables r (x ∷ q) z p e n =
-    let whole : x ∷ (q ++ z) ≡ p.first ∷ (p.reads ++ p.rest) = e ∙ p.is in
-    let same : x ≡ p.first = cc in
-    let more : q ++ z ≡ p.reads ++ p.rest = cc in
-    let first : x.event ≡ write_by 1 stall = ap event_of same ∙ p.stalls in
-    inr (ap (λ e. write_of e ++ writes_in q) first ∙ ap (λ ws. stall ∷ ws) (only_reads p.reads p.rest q z more p.events (ending p.ends) n.1))
+-- A part in which no read is drained writes some of the stalls, and nothing else.
+pub before_reading : (stalls tables : List RegPair) (r q z : List LoggedEvent) → IsPlanRecord stalls tables r → q ++ z ≡ r → AllByRecursion NotDrained q → (ws : List RegPair) × (stalls ≡ writes_in q ++ ws)
+before_reading stalls tables r q z p e n = by (two_cuts q z p.first (p.reads ++ p.rest) (e ∙ p.is))
   where
-    ending : (AllByRecursion Misses p.reads × (p.rest ≡ [])) ⊎ (HasHit p.reads × (map event_of p.rest ≡ map (write_by 1) (tables ++ free ∷ []))) → Ends p.reads p.rest
+    ending : PlanEnds tables p.reads p.rest → Ends p.reads p.rest
     ending (inl e) = inl e.1
     ending (inr e) = inr e.0
 
+    by : CutInFirst q z p.first (p.reads ++ p.rest) ⊎ CutInSecond q z p.first (p.reads ++ p.rest) → (ws : List RegPair) × (stalls ≡ writes_in q ++ ws)
+    by (inl c) = (writes_in c.more, sym (stalls_written stalls tables r p) ∙ (ap writes_in c.first ∙ writes_both q c.more))
+    by (inr c) =
+        let parts = all_parts NotDrained p.first c.more (subst (AllByRecursion NotDrained) c.taken n) in
+        let silent = only_reads p.reads p.rest c.more z c.rest p.events (ending p.ends) parts.1 in
+        let whole : writes_in q ≡ stalls = ap writes_in c.taken ∙ (writes_both p.first c.more ∙ (ap (λ ws. writes_in p.first ++ ws) silent ∙ (append_nothing (writes_in p.first) ∙ stalls_written stalls tables r p))) in
+        ([], sym (append_nothing (writes_in q) ∙ whole))
+
 -- ---- at the drained reading
 
-missed : (reads q z : List LoggedEvent) (x : LoggedEvent) → q ++ x ∷ z ≡ reads → AllByRecursion Misses reads → Misses x
-missed [] [] z x e m = absurd (let n : x ∷ z ≡ [] = e in cc)
-missed [] (y ∷ q) z x e m = absurd (let n : y ∷ (q ++ x ∷ z) ≡ [] = e in cc)
-missed (y ∷ reads) [] z x e m = let same : y ≡ x = cc in subst Misses same m.0
-missed (y ∷ reads) (w ∷ q) z x e m = let more : q ++ x ∷ z ≡ reads = cc in missed reads q z x more m.1
+missed : (reads q z : List LoggedEvent) (x : LoggedEvent) → reads ≡ q ++ x ∷ z → AllByRecursion Misses reads → Misses x
+missed reads q z x e m = (all_parts Misses q (x ∷ z) (subst (AllByRecursion Misses) e m)).1.0
 
-read_no_write : (x y : LoggedEvent) → IsDrainRead x → y.event ≡ write_by 1 stall → x ≡ y → ⊥
-read_no_write x y r w e = let n : RegRead 0 1 12 ≡ RegWrite 0 1 12 1 = sym r ∙ (ap event_of e ∙ w) in cc
+-- events of writes
+pub loud : (c : ℕ) (ws : List RegPair) (xs : List LoggedEvent) → map event_of xs ≡ map (write_by c) ws → AllByRecursion (λ x. WritesNothing x → ⊥) xs
+loud c ws [] h = tt
+loud c [] (x ∷ xs) h = absurd (let n : x.event ∷ map event_of xs ≡ [] = h in cc)
+loud c (w ∷ ws) (x ∷ xs) h =
+    let e : x.event ≡ write_by c w = cc in
+    let rest : map event_of xs ≡ map (write_by c) ws = cc in
+    (λ q. subst IsNoWrite e q, loud c ws xs rest)
 
-pub at_reading : (tables : List RegPair) (r q z : List LoggedEvent) (x : LoggedEvent) → IsPlanRecord tables r → q ++ x ∷ z ≡ r → IsDrainRead x → hits 1 0 x.reply ≡ true
-    → (writes_in r ≡ stall ∷ (tables ++ free ∷ [])) × (q ≡ [] → ⊥)
-at_reading tables r q z x p e read hit = (ending p.ends (record_writes tables r p), λ none. no_first q none e)
-  where
-    no_first : (q : List LoggedEvent) → q ≡ [] → q ++ x ∷ z ≡ r → ⊥
-    no_first q none e =
-        let whole : x ∷ z ≡ p.first ∷ (p.reads ++ p.rest) = ap (λ ys. ys ++ x ∷ z) (sym none) ∙ (e ∙ p.is) in
-        let same : x ≡ p.first = cc in
-        read_no_write x p.first read p.stalls same
+-- the plan writes the rest, and before the reading it wrote the stalls
+pub record IsAtReading (stalls tables : List RegPair) (r q : List LoggedEvent) : Type 0 where
+  pub whole : writes_in r ≡ stalls ++ (tables ++ free ∷ [])
+  pub before : writes_in q ≡ stalls
 
-    inside : (q : List LoggedEvent) → q ++ x ∷ z ≡ p.first ∷ (p.reads ++ p.rest) → AllByRecursion Misses p.reads → p.rest ≡ [] → ⊥
-    inside [] e m none = let same : x ≡ p.first = cc in read_no_write x p.first read p.stalls same
-    inside (y ∷ q) e m none =
-        let more : q ++ x ∷ z ≡ p.reads ++ p.rest = cc in
-        let here = missed p.reads q z x (more ∙ (ap (λ ys. p.reads ++ ys) none ∙ append_nothing p.reads)) m in
-        let n : false ≡ true = sym here ∙ hit in
-        cc
+module _ (stalls tables : List RegPair) (r q z : List LoggedEvent) (x : LoggedEvent) (p : IsPlanRecord stalls tables r) (e : q ++ x ∷ z ≡ r) (read : IsDrainRead x) (hit : hits 1 0 x.reply ≡ true) where
+  writes_nothing : WritesNothing x
+  writes_nothing = subst IsNoWrite (sym read) tt
 
-    ending : (AllByRecursion Misses p.reads × (p.rest ≡ [])) ⊎ (HasHit p.reads × (map event_of p.rest ≡ map (write_by 1) (tables ++ free ∷ []))) → writes_in r ≡ stall ∷ writes_in p.rest → writes_in r ≡ stall ∷ (tables ++ free ∷ [])
-    ending (inl m) w = absurd (inside q (e ∙ p.is) m.0 m.1)
-    ending (inr m) w = w ∙ ap (λ es. stall ∷ es) (ap writes m.1 ∙ writes_by 1 (tables ++ free ∷ []))
+  no_stall : (a b : List LoggedEvent) → p.first ≡ a ++ x ∷ b → ⊥
+  no_stall a b f = (all_parts (λ x. WritesNothing x → ⊥) a (x ∷ b) (subst (AllByRecursion (λ x. WritesNothing x → ⊥)) f (loud 1 stalls p.first p.stalling))).1.0 writes_nothing
+
+  no_end : (a b : List LoggedEvent) → p.rest ≡ a ++ x ∷ b → PlanEnds tables p.reads p.rest → ⊥
+  no_end a b f (inl m) = let n = nothing_after a (x ∷ b) (sym f ∙ m.1) in let k : x ∷ b ≡ [] = n in cc
+  no_end a b f (inr m) = (all_parts (λ x. WritesNothing x → ⊥) a (x ∷ b) (subst (AllByRecursion (λ x. WritesNothing x → ⊥)) f (loud 1 (tables ++ free ∷ []) p.rest m.1))).1.0 writes_nothing
+
+  -- the cut is among the reads
+  record AmongReads : Type 0 where
+    pub early : List LoggedEvent
+    pub late : List LoggedEvent
+    pub part : q ≡ p.first ++ early
+    pub reads : p.reads ≡ early ++ x ∷ late
+
+  in_reads : (early : List LoggedEvent) → q ≡ p.first ++ early → early ++ x ∷ z ≡ p.reads ++ p.rest → AmongReads
+  in_reads early part f = by (two_cuts early (x ∷ z) p.reads p.rest f)
+    where
+      first_of : (more : List LoggedEvent) → p.reads ≡ early ++ more → x ∷ z ≡ more ++ p.rest → AmongReads
+      first_of [] g h = absurd (no_end [] z (sym h) p.ends)
+      first_of (y ∷ more) g h = let same : y ≡ x = cc in record { early = early; late = more; part = part; reads = g ∙ ap (λ w. early ++ w ∷ more) same }
+
+      by : CutInFirst early (x ∷ z) p.reads p.rest ⊎ CutInSecond early (x ∷ z) p.reads p.rest → AmongReads
+      by (inl c) = first_of c.more c.first c.rest
+      by (inr c) = absurd (no_end c.more z (sym c.rest) p.ends)
+
+  among_reads : AmongReads
+  among_reads = by (two_cuts q (x ∷ z) p.first (p.reads ++ p.rest) (e ∙ p.is))
+    where
+      first_of : (more : List LoggedEvent) → p.first ≡ q ++ more → x ∷ z ≡ more ++ (p.reads ++ p.rest) → AmongReads
+      first_of [] g h = in_reads [] (sym (append_nothing q) ∙ (sym g ∙ sym (append_nothing p.first))) h
+      first_of (y ∷ more) g h = let same : y ≡ x = cc in absurd (no_stall q more (g ∙ ap (λ w. q ++ w ∷ more) same))
+
+      by : CutInFirst q (x ∷ z) p.first (p.reads ++ p.rest) ⊎ CutInSecond q (x ∷ z) p.first (p.reads ++ p.rest) → AmongReads
+      by (inl c) = first_of c.more c.first c.rest
+      by (inr c) = in_reads c.more c.taken c.rest
+
+  pub at_reading : IsAtReading stalls tables r q
+  at_reading =
+      let c = among_reads in
+      let silent = reads_nothing c.early (all_parts IsDrainRead c.early (x ∷ c.late) (subst (AllByRecursion IsDrainRead) c.reads p.events)).0 in
+      record {
+        whole = ending p.ends (record_writes stalls tables r p);
+        before = ap writes_in c.part ∙ (writes_both p.first c.early ∙ (ap (λ ws. writes_in p.first ++ ws) silent ∙ (append_nothing (writes_in p.first) ∙ stalls_written stalls tables r p)));
+      }
+    where
+      ending : PlanEnds tables p.reads p.rest → writes_in r ≡ stalls ++ writes_in p.rest → writes_in r ≡ stalls ++ (tables ++ free ∷ [])
+      ending (inl m) w = let c = among_reads in absurd (let n : false ≡ true = sym (missed p.reads c.early c.late x c.reads m.0) ∙ hit in cc)
+      ending (inr m) w = w ∙ ap (λ es. stalls ++ es) (ap writes m.1 ∙ writes_by 1 (tables ++ free ∷ []))
 
 -- ---- between the drained reading and the release
 
@@ -207,31 +249,24 @@ pub value_kept : (n i : ℕ) (ws : List RegPair) → AreNot i ws → value_from 
 value_kept n i [] h = refl
 value_kept n i (w ∷ ws) h = ap (λ b. value_from (cond b w.value n) ws i) (ne_eqb w.index i h.0) ∙ value_kept n i ws h.1
 
-part_kept : (tables a b : List RegPair) → a ++ b ≡ tables ++ free ∷ [] → (b ≡ [] → ⊥) → AreNot 12 tables → AreNot 12 a
-part_kept tables [] b e ne h = tt
-part_kept [] (x ∷ a) b e ne h = let rest : a ++ b ≡ [] = cc in absurd (ne (nothing_after a b rest))
+-- of neither MDSTALL nor RRIDSCP
+abbrev pub StallNobody : List RegPair → Type 0
+StallNobody ws = AllByRecursion (λ (w : RegPair). (w.index ≡ 12 → ⊥) × (w.index ≡ 14 → ⊥)) ws
+
+pub flag_kept : (s : ℕ) (b : Bool) (ws : List RegPair) → StallNobody ws → flag_from s b ws ≡ b
+flag_kept s b [] h = refl
+flag_kept s b (w ∷ ws) h =
+    ap (λ c. flag_from s c ws) (cond-false (w.index == 12) (w.value == 1) _ (ne_eqb w.index 12 h.0.0) ∙ cond-false (w.index == 14) _ b (ne_eqb w.index 14 h.0.1))
+    ∙ flag_kept s b ws h.1
+
+-- A part without the last write is one of the tables' writes.
+pub tables_part : (tables a b : List RegPair) → a ++ b ≡ tables ++ free ∷ [] → (b ≡ [] → ⊥) → (c : List RegPair) × (tables ≡ a ++ c)
+tables_part tables a b e ne = by (two_cuts a b tables (free ∷ []) e)
   where
-    nothing_after : (vs ws : List RegPair) → vs ++ ws ≡ [] → ws ≡ []
-    nothing_after [] ws e = e
-    nothing_after (v ∷ vs) ws e = absurd (let n : v ∷ (vs ++ ws) ≡ [] = e in cc)
-part_kept (t ∷ tables) (x ∷ a) b e ne h =
-    let same : t ≡ x = cc in
-    let rest : a ++ b ≡ tables ++ free ∷ [] = cc in
-    (subst (λ (w : RegPair). w.index ≡ 12 → ⊥) same h.0, part_kept tables a b rest ne h.1)
+    last : (more : List RegPair) → more ++ b ≡ free ∷ [] → a ≡ tables ++ more → (c : List RegPair) × (tables ≡ a ++ c)
+    last [] f g = ([], sym (append_nothing a ∙ (g ∙ append_nothing tables)))
+    last (y ∷ more) f g = let rest : more ++ b ≡ [] = cc in absurd (ne (nothing_after more b rest))
 
-pub some_writes : (tables : List RegPair) (r q z : List LoggedEvent) → IsPlanRecord tables r → q ++ z ≡ r → (q ≡ [] → ⊥) → writes_in q ≡ [] → ⊥
-some_writes tables r [] z p e some none = some refl
-some_writes tables r (x ∷ q) z p e some none =
-    let whole : x ∷ (q ++ z) ≡ p.first ∷ (p.reads ++ p.rest) = e ∙ p.is in
-    let same : x ≡ p.first = cc in
-    let first : x.event ≡ write_by 1 stall = ap event_of same ∙ p.stalls in
-    let n : stall ∷ writes_in q ≡ [] = sym (ap (λ e. write_of e ++ writes_in q) first) ∙ none in
-    cc
-
--- The stall is on after a part that has the first write and not the last.
-pub part_stalls : (n : ℕ) (tables a b : List RegPair) → a ++ b ≡ stall ∷ (tables ++ free ∷ []) → (a ≡ [] → ⊥) → (b ≡ [] → ⊥) → AreNot 12 tables → value_from n a 12 ≡ 1
-part_stalls n tables [] b e some more h = absurd (some refl)
-part_stalls n tables (x ∷ a) b e some more h =
-    let same : x ≡ stall = cc in
-    let rest : a ++ b ≡ tables ++ free ∷ [] = cc in
-    ap (λ w. value_from n (w ∷ a) 12) same ∙ value_kept 1 12 a (part_kept tables a b rest more h)
+    by : CutInFirst a b tables (free ∷ []) ⊎ CutInSecond a b tables (free ∷ []) → (c : List RegPair) × (tables ≡ a ++ c)
+    by (inl c) = (c.more, c.first)
+    by (inr c) = last c.more c.rest c.taken

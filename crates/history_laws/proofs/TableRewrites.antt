@@ -15,8 +15,8 @@ use Rattle.policy_compiler.specs.Commands.{write_command}
 use Rattle.policy_compiler.proofs.Standing.{value_from, value_of, IsRewrite}
 use Rattle.policy_compiler.proofs.Decisive.{IsImageWrite, image_each, image_shape, image_enables}
 use Rattle.update_planner.specs.Plans.{written_value, is_written, is_rewritten, rewrite, rewrites, plan_commands}
-use Rattle.history_laws.proofs.WriteRecords.{plan_of, free}
-use Rattle.history_laws.proofs.LiveLaw.{Rewrites}
+use Rattle.history_laws.proofs.WriteRecords.{plan_of, stall, free}
+use Rattle.history_laws.proofs.UpdateWrites.{Rewrites}
 
 -- ---- the plan's commands
 
@@ -30,7 +30,7 @@ same_commands : (new : ImageOf) (is : List ℕ) → map (rewrite new) is ++ Writ
 same_commands new [] = refl
 same_commands new (i ∷ is) = ap (λ cs. rewrite new i ∷ cs) (same_commands new is)
 
-pub plan_is : (old new : ImageOf) (polls : ℕ) → plan_commands old new polls ≡ plan_of (tables_between old new) polls
+pub plan_is : (old new : ImageOf) (polls : ℕ) → plan_commands old new polls ≡ plan_of (stall ∷ []) (tables_between old new) polls
 unfolding plan_commands rewrites
 plan_is old new polls = ap (λ cs. Write 0 12 1 ∷ Until 0 12 1 0 polls ∷ cs) (same_commands new (filter (is_rewritten old new) (range_with_len 0 (index_count new.shape))))
 
@@ -172,5 +172,5 @@ rewrites_between old new good_old good_new shape fits_old fits_new =
     record {
       each = all_mapped (IsRewrite old.shape) (λ i. pair i (new_value (image_of new) i)) (is_rewritten (image_of old) (image_of new)) (range_with_len 0 (index_count (image_of new).shape))
           (λ i t. each_rewrite old.shape (image_of old) (image_of new) i all_old all_new t);
-      values = λ i ne. same_values old.shape (image_of old) (image_of new) (image_shape new ∙ sym shape) all_old all_new (image_enables old ∙ sym (image_enables new)) i;
+      values = λ i. same_values old.shape (image_of old) (image_of new) (image_shape new ∙ sym shape) all_old all_new (image_enables old ∙ sym (image_enables new)) i;
     }

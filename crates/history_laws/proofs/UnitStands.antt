@@ -1,12 +1,12 @@
 -- What the register writes of a history leave in unit 0, whatever stands between them.
-use Rattle.std.proofs.Common.{◌≡◌, ℕ, zero, suc, ◌+◌, ◌-◌, ◌/◌, ◌%◌, ◌^◌, ◌<◌, ◌≤◌, ◌++◌, ltb, ◌==◌, ◌&&◌, inl, inr, Bool, true, false, List, [], ◌∷◌, Option, Some, None, length, take, drop, append_assoc, set, refl, sym, ap, subst, ◌∙◌, arith, ⊎_elim}
+use Rattle.std.proofs.Common.{◌≡◌, ℕ, zero, suc, ◌+◌, ◌-◌, ◌/◌, ◌%◌, ◌^◌, ◌<◌, ◌≤◌, ◌++◌, ltb, ◌==◌, ◌&&◌, inl, inr, Bool, true, false, cond, List, [], ◌∷◌, Option, Some, None, length, map, take, drop, append_assoc, set, refl, sym, ap, subst, ◌∙◌, arith, ⊎_elim}
 use Rattle.std.specs.Prelude.{slice_get, nat_le, option_and_then}
-use Rattle.std.specs.List.{AllByRecursion}
+use Rattle.std.specs.List.{AllByRecursion, range_with_len}
 use Rattle.std.specs.Int.{bit_at}
 use Rattle.std.proofs.lemmas.Nat.Bits.{bit_at-zero, bit_at-suc}
-use Rattle.std.proofs.lemmas.List.{length-set, get_or-replicate}
+use Rattle.std.proofs.lemmas.List.{length-set, length-replicate, get_or-set_same, get_or-set_other, get_or-replicate}
 use Rattle.std.proofs.lemmas.List.FromFn.{get_or-map-range_with_len}
-use Rattle.std.proofs.lemmas.Bool.{cases_eq, cond-true, cond-false, cond_both, eq-eqb, ne_eqb}
+use Rattle.std.proofs.lemmas.Bool.{cases_eq, cond-true, cond-false, cond_both, eq-eqb, ne_eqb, eqb-true}
 use Rattle.event_words.specs.declared.shape.Shape.{Shape}
 use Rattle.event_words.specs.declared.access.Access.{Access}
 use Rattle.event_words.specs.declared.reply.Denial.{Denial}
@@ -22,7 +22,7 @@ use Rattle.policy_compiler.specs.declared.image.RegPair.{RegPair}
 use Rattle.policy_compiler.specs.Policies.{IsPolicyShape}
 use Rattle.policy_compiler.specs.Images.{pair}
 use Rattle.policy_compiler.proofs.Finds.{any_none}
-use Rattle.policy_compiler.proofs.Standing.{value_of, value_same, value_other, Stands, IsNext, AreNext, stands_same, stands_step, stands_reset}
+use Rattle.policy_compiler.proofs.Standing.{Stands, IsNext, AreNext, stands_same, stands_step, stands_reset}
 use Rattle.unit_core.proofs.KeptBits.{other_stays}
 use Rattle.unit_core.specs.Units.{UnitState, unit_step, is_stalled, after_write, taken_as, wide_access}
 use Rattle.unit_core.specs.Histories.{History, aims_at, event_at}
@@ -32,12 +32,33 @@ use Rattle.unit_core.proofs.Registers.{recorded_cases, recorded_outside}
 use Rattle.unit_core.proofs.Runs.{own_state, own_next, as_it_is}
 use Rattle.history_laws.proofs.Writes.{write_of, writes, writes_next, writes_past, writes_cut, append_nothing, all_get}
 
--- Its registers stand after these writes, and MDSTALLH, which none of them writes, selects no domain. So where
--- the last write of MDSTALL is 1 each known requester is stalled, and where it is 0, as before any, none is.
+-- ---- the flag of a requester
+
+-- a write of RRIDSCP that names it sets or clears its flag
+abbrev flag_by_rridscp : ℕ → Bool → ℕ → Bool
+flag_by_rridscp s b v =
+    cond (v / 2 ^ 30 == 1) (cond (v % 2 ^ 16 == s) true b)
+    (cond (v / 2 ^ 30 == 2) (cond (v % 2 ^ 16 == s) false b) b)
+
+-- a write of MDSTALL that selects no domain sets or clears every flag
+abbrev pub flag_after : ℕ → Bool → RegPair → Bool
+flag_after s b w = cond (w.index == 12) (w.value == 1) (cond (w.index == 14) (flag_by_rridscp s b w.value) b)
+
+abbrev pub flag_from : ℕ → Bool → List RegPair → Bool
+flag_from s b [] = b
+flag_from s b (w ∷ ws) = flag_from s (flag_after s b w) ws
+
+pub flag_append : (s : ℕ) (b : Bool) (ps qs : List RegPair) → flag_from s b (ps ++ qs) ≡ flag_from s (flag_from s b ps) qs
+flag_append s b [] qs = refl
+flag_append s b (p ∷ ps) qs = flag_append s (flag_after s b p) ps qs
+
+-- Its registers stand after these writes, MDSTALLH, which none of them writes, selects no domain, and each known
+-- requester has the flag that they leave.
 pub record UnitStands (h : Shape) (ps : List RegPair) (x : UnitState) : Type 0 where
   pub registers : Stands h ps x.registers
   pub unselected : word_at x.registers 13 ≡ 0
-  pub stalled : value_of ps 12 < 2 → (s : ℕ) → s < h.rrids → is_stalled x s ≡ (value_of ps 12 == 1)
+  pub count : length x.flags ≡ h.rrids
+  pub stalled : (s : ℕ) → s < h.rrids → is_stalled x s ≡ flag_from s false ps
 
 -- ---- captures
 
@@ -80,39 +101,73 @@ stalls_all r v s small z l =
 
 -- ---- one step
 
--- Neither MDSTALLH nor RRIDSCP is written.
-next_outside : (h : Shape) (ps : List RegPair) (w : RegPair) → IsNext h ps w → 13 ≤ w.index → w.index < 512 → ⊥
-next_outside h ps w (inl (inl t)) l u = let f = t.0 in absurd (omega arith)
-next_outside h ps w (inl (inr (inl t))) l u = absurd (omega arith)
-next_outside h ps w (inl (inr (inr p))) l u = let t = p.table in absurd (omega arith)
-next_outside h ps w (inr t) l u = let f : w.index ≡ 2 = ap (λ (x : RegPair). x.index) t.0 in absurd (omega arith)
+-- MDSTALLH isn't written, and MDSTALL with no domain selected alone.
+next_not : (h : Shape) (ps : List RegPair) (w : RegPair) → IsNext h ps w → w.index ≡ 13 → ⊥
+next_not h ps w (inl (inl t)) e = let f = t.0 in absurd (omega arith)
+next_not h ps w (inl (inr (inl (inl t)))) e = let f = t.0 in absurd (omega arith)
+next_not h ps w (inl (inr (inl (inr t)))) e = absurd (omega arith)
+next_not h ps w (inl (inr (inr p))) e = let t = p.table in absurd (omega arith)
+next_not h ps w (inr t) e = let f : w.index ≡ 2 = ap (λ (x : RegPair). x.index) t.0 in absurd (omega arith)
 
-kept_flags : (r : Registers) (flags : List Bool) (index value : ℕ) → (index ≡ 12 → ⊥) → (index ≡ 14 → ⊥) → flags_after r flags index value ≡ flags
-kept_flags r flags index value p q =
-    cond-false (index == 12) (flags_after_mdstall r value) _ (ne_eqb index 12 p) ∙ cond-false (index == 14) (flags_after_rridscp flags value) flags (ne_eqb index 14 q)
+next_small : (h : Shape) (ps : List RegPair) (w : RegPair) → IsNext h ps w → w.index ≡ 12 → w.value < 2
+next_small h ps w (inl (inl t)) e = let f = t.0 in absurd (omega arith)
+next_small h ps w (inl (inr (inl (inl t)))) e = t.1
+next_small h ps w (inl (inr (inl (inr t)))) e = absurd (omega arith)
+next_small h ps w (inl (inr (inr p))) e = let t = p.table in absurd (omega arith)
+next_small h ps w (inr t) e = let f : w.index ≡ 2 = ap (λ (x : RegPair). x.index) t.0 in absurd (omega arith)
+
+one_set : (flags : List Bool) (j s : ℕ) (b c : Bool) → s < length flags → flag_of flags s ≡ b → flag_of (set flags j c) s ≡ cond (j == s) c b
+one_set flags j s b c l e = ⊎_elim
+    (λ (q : j ≡ s). ap (flag_of (set flags j c)) (sym q) ∙ (get_or-set_same flags j c false (omega arith) ∙ sym (cond-true (j == s) c b (eq-eqb j s q))))
+    (λ (ne : j ≡ s → ⊥). get_or-set_other flags j s c false (λ q. ne (sym q)) ∙ (e ∙ sym (cond-false (j == s) c b (ne_eqb j s ne))))
+    (cases_eq j s)
+
+by_rridscp : (flags : List Bool) (v s : ℕ) (b : Bool) → s < length flags → flag_of flags s ≡ b → flag_of (flags_after_rridscp flags v) s ≡ flag_by_rridscp s b v
+by_rridscp flags v s b l e = by (v / 2 ^ 30 == 1) (v / 2 ^ 30 == 2)
+  where
+    by : (p q : Bool) → flag_of (cond p (set flags (v % 2 ^ 16) true) (cond q (set flags (v % 2 ^ 16) false) flags)) s ≡ cond p (cond (v % 2 ^ 16 == s) true b) (cond q (cond (v % 2 ^ 16 == s) false b) b)
+    by true q = one_set flags (v % 2 ^ 16) s b true l e
+    by false true = one_set flags (v % 2 ^ 16) s b false l e
+    by false false = e
+
+count_kept : (r : Registers) (flags : List Bool) (index value : ℕ) → length flags ≡ r.shape.rrids → length (flags_after r flags index value) ≡ r.shape.rrids
+count_kept r flags index value e =
+    cond_both (index == 12) (flags_after_mdstall r value) _ (λ fs. length fs ≡ r.shape.rrids) (λ t. length_mapped r.shape.rrids 0)
+    (λ t. cond_both (index == 14) (flags_after_rridscp flags value) flags (λ fs. length fs ≡ r.shape.rrids)
+    (λ t. cond_both (value / 2 ^ 30 == 1) (set flags (value % 2 ^ 16) true) _ (λ fs. length fs ≡ r.shape.rrids) (λ t. length-set flags (value % 2 ^ 16) true ∙ e)
+    (λ t. cond_both (value / 2 ^ 30 == 2) (set flags (value % 2 ^ 16) false) flags (λ fs. length fs ≡ r.shape.rrids) (λ t. length-set flags (value % 2 ^ 16) false ∙ e) (λ t. e)))
+    (λ t. e))
+  where
+    length_mapped : (n a : ℕ) → length (map (λ s. differs (has_bit value 0) (is_selected r value s)) (range_with_len a n)) ≡ n
+    length_mapped zero a = refl
+    length_mapped (suc n) a = ap (λ m. suc m) (length_mapped n (a + 1))
+
+flag_written : (h : Shape) (ps : List RegPair) (x : UnitState) (index value s : ℕ) → IsNext h ps (pair index value) → UnitStands h ps x → s < h.rrids
+    → flag_of (flags_after x.registers x.flags index value) s ≡ flag_after s (flag_from s false ps) (pair index value)
+flag_written h ps x index value s next c l = by (index == 12) (index == 14) refl refl
+  where
+    by : (p q : Bool) → (index == 12) ≡ p → (index == 14) ≡ q
+        → flag_of (cond p (flags_after_mdstall x.registers value) (cond q (flags_after_rridscp x.flags value) x.flags)) s
+        ≡ cond p (value == 1) (cond q (flag_by_rridscp s (flag_from s false ps) value) (flag_from s false ps))
+    by true q e f =
+        let known : s < x.registers.shape.rrids = subst (λ (z : Shape). s < z.rrids) (sym c.registers.unlocked.shape) l in
+        stalls_all x.registers value s (next_small h ps (pair index value) next (eqb-true index 12 e)) c.unselected known
+    by false true e f = let n = c.count in by_rridscp x.flags value s (flag_from s false ps) (omega arith) (c.stalled s l)
+    by false false e f = c.stalled s l
 
 write_stands : (h : Shape) (ps : List RegPair) (x : UnitState) (index value : ℕ) → IsPolicyShape h → IsNext h ps (pair index value) → UnitStands h ps x → UnitStands h (ps ++ pair index value ∷ []) (after_write x index value)
 write_stands h ps x index value good next c =
-    let out = next_outside h ps (pair index value) next in
+    let rrids : x.registers.shape.rrids ≡ h.rrids = ap (λ (z : Shape). z.rrids) c.registers.unlocked.shape in
     record {
       registers = stands_step h ps x.registers (pair index value) good next c.registers;
-      unselected = other_stays x.registers index value (guarded_bits x.registers index) 13 (register_at x.registers.shape index) (λ e. out (omega arith) (omega arith)) ∙ c.unselected;
-      stalled = λ v s l. ⊎_elim
-          (λ (e : index ≡ 12).
-          let is : value_of (ps ++ pair index value ∷ []) 12 ≡ value = value_same ps (pair index value) 12 e in
-          let known : s < x.registers.shape.rrids = subst (λ (z : Shape). s < z.rrids) (sym c.registers.unlocked.shape) l in
-          ap (λ fs. flag_of fs s) (cond-true (index == 12) (flags_after_mdstall x.registers value) _ (eq-eqb index 12 e))
-          ∙ (stalls_all x.registers value s (subst (λ n. n < 2) is v) c.unselected known ∙ ap (λ n. n == 1) (sym is)))
-          (λ (ne : index ≡ 12 → ⊥).
-          let is : value_of (ps ++ pair index value ∷ []) 12 ≡ value_of ps 12 = value_other ps (pair index value) 12 ne in
-          ap (λ fs. flag_of fs s) (kept_flags x.registers x.flags index value ne (λ e. out (omega arith) (omega arith)))
-          ∙ (c.stalled (subst (λ n. n < 2) is v) s l ∙ ap (λ n. n == 1) (sym is)))
-          (cases_eq index 12);
+      unselected = other_stays x.registers index value (guarded_bits x.registers index) 13 (register_at x.registers.shape index) (λ e. next_not h ps (pair index value) next (sym e)) ∙ c.unselected;
+      count = count_kept x.registers x.flags index value (c.count ∙ sym rrids) ∙ rrids;
+      stalled = λ s l. flag_written h ps x index value s next c l ∙ sym (flag_append s false ps (pair index value ∷ []));
     }
 
 quiet : (h : Shape) (ps : List RegPair) (x y : UnitState) → y.flags ≡ x.flags → Stands h ps y.registers → word_at y.registers 13 ≡ word_at x.registers 13 → UnitStands h ps x → UnitStands h (ps ++ []) y
 quiet h ps x y flags c high u =
-    subst (λ ws. UnitStands h ws y) (sym (append_nothing ps)) (record { registers = c; unselected = high ∙ u.unselected; stalled = λ v s l. ap (λ fs. flag_of fs s) flags ∙ u.stalled v s l })
+    subst (λ ws. UnitStands h ws y) (sym (append_nothing ps)) (record { registers = c; unselected = high ∙ u.unselected; count = ap length flags ∙ u.count; stalled = λ s l. ap (λ fs. flag_of fs s) flags ∙ u.stalled s l })
 
 -- A capture leaves what stands.
 captured : (h : Shape) (ps : List RegPair) (x y : UnitState) (a : Access) (d : Denial) → y.flags ≡ x.flags → y.registers ≡ recorded x.registers a d → UnitStands h ps x → UnitStands h (ps ++ []) y
@@ -189,7 +244,8 @@ pub unit_stands : (h : Shape) (g : History) → IsPolicyShape h → AreNext h []
 unit_stands h g good next all zero = record {
   registers = stands_reset h good;
   unselected = get_or-map-range_with_len (reset_word h) 0 (index_count h) 13 13 0 (omega arith) (omega arith);
-  stalled = λ v s l. get_or-replicate h.rrids s false false l;
+  count = length-replicate h.rrids false;
+  stalled = λ s l. get_or-replicate h.rrids s false false l;
 }
 unit_stands h g good next all (suc k) =
     let x = own_state g 0 h k in

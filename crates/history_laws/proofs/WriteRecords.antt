@@ -8,7 +8,7 @@ use Rattle.event_words.specs.declared.record.LoggedEvent.{LoggedEvent}
 use Rattle.event_words.specs.declared.record.SectionEnd.{SectionEnd}
 use Rattle.event_words.specs.declared.record.SectionEnd.TheVariants.{Stopped}
 use Rattle.event_words.specs.declared.section.Command.{Command}
-use Rattle.event_words.specs.declared.section.Command.TheVariants.{Write, Until}
+use Rattle.event_words.specs.declared.section.Command.TheVariants.{Until}
 use Rattle.event_words.specs.Events.{same_event}
 use Rattle.event_words.specs.Records.{OpenSlot, first_as, polls, hits, one_piece, until_piece, nothing_left, after_piece, end_from}
 use Rattle.policy_compiler.specs.declared.image.RegPair.{RegPair}
@@ -80,6 +80,28 @@ writes_record c (w ∷ ws) slots xs end h =
     let tail = writes_record c ws slots s.rest end s.goes in
     ap (map event_of) s.is ∙ (ap (λ e. e ∷ map event_of s.rest) head ∙ ap (λ es. write_by c w ∷ es) tail)
 
+-- the events of writes with which a section begins, and the record of the rest
+record StartsWithAll (c : ℕ) (ws : List RegPair) (go : List LoggedEvent → Option SectionEnd) (xs : List LoggedEvent) (end : SectionEnd) : Type 0 where
+  pub first : List LoggedEvent
+  pub rest : List LoggedEvent
+  pub is : xs ≡ first ++ rest
+  pub events : map event_of first ≡ map (write_by c) ws
+  pub goes : go rest ≡ Some end
+
+writes_first : (c : ℕ) (ws : List RegPair) (cs : List Command) (slots : List (Option OpenSlot)) (xs : List LoggedEvent) (end : SectionEnd) → end_from c (map write_command ws ++ cs) slots xs ≡ Some end → StartsWithAll c ws (end_from c cs slots) xs end
+writes_first c [] cs slots xs end h = record { first = []; rest = xs; is = refl; events = refl; goes = h }
+writes_first c (w ∷ ws) cs slots xs end h =
+    let s = one_first (write_by c w) (end_from c (map write_command ws ++ cs)) slots xs end h in
+    let head = same_write 0 c w.index w.value s.first.event s.event in
+    let tail = writes_first c ws cs slots s.rest end s.goes in
+    record {
+      first = s.first ∷ tail.first;
+      rest = tail.rest;
+      is = s.is ∙ ap (λ ys. s.first ∷ ys) tail.is;
+      events = ap (λ e. e ∷ map event_of tail.first) head ∙ ap (λ es. write_by c w ∷ es) tail.events;
+      goes = tail.goes;
+    }
+
 -- ---- the reads of MDSTALL
 
 abbrev pub IsDrainRead : LoggedEvent → Type 0
@@ -142,35 +164,38 @@ stall = pair 12 1
 abbrev pub free : RegPair
 free = pair 12 0
 
--- all requesters stall, the drain is polled for, the tables are written, and the stall ends
-abbrev pub plan_of : List RegPair → ℕ → List Command
-plan_of tables polls = Write 0 12 1 ∷ Until 0 12 1 0 polls ∷ map write_command (tables ++ free ∷ [])
+-- requesters stall, the drain is polled for, the tables are written, and the stall ends
+abbrev pub plan_of : List RegPair → List RegPair → ℕ → List Command
+plan_of stalls tables polls = map write_command stalls ++ (Until 0 12 1 0 polls ∷ map write_command (tables ++ free ∷ []))
 
--- The record of a plan: the stall, the reads, and where one of them hits the other writes.
-pub record IsPlanRecord (tables : List RegPair) (xs : List LoggedEvent) : Type 0 where
-  pub first : LoggedEvent
+-- what follows the reads: nothing where all of them miss, and the other writes where one hits
+abbrev pub PlanEnds : List RegPair → List LoggedEvent → List LoggedEvent → Type 0
+PlanEnds tables reads rest = (AllByRecursion Misses reads × (rest ≡ [])) ⊎ (HasHit reads × (map event_of rest ≡ map (write_by 1) (tables ++ free ∷ [])))
+
+-- The record of a plan: the stalls, the reads, and what follows them.
+pub record IsPlanRecord (stalls tables : List RegPair) (xs : List LoggedEvent) : Type 0 where
+  pub first : List LoggedEvent
   pub reads : List LoggedEvent
   pub rest : List LoggedEvent
-  pub is : xs ≡ first ∷ (reads ++ rest)
-  pub stalls : first.event ≡ write_by 1 stall
+  pub is : xs ≡ first ++ (reads ++ rest)
+  pub stalling : map event_of first ≡ map (write_by 1) stalls
   pub events : AllByRecursion IsDrainRead reads
-  pub ends : (AllByRecursion Misses reads × (rest ≡ [])) ⊎ (HasHit reads × (map event_of rest ≡ map (write_by 1) (tables ++ free ∷ [])))
+  pub ends : PlanEnds tables reads rest
 
-pub plan_record : (tables : List RegPair) (n : ℕ) (slots : List (Option OpenSlot)) (xs : List LoggedEvent) (end : SectionEnd) → end_from 1 (plan_of tables n) slots xs ≡ Some end → IsPlanRecord tables xs
-plan_record tables n slots xs end h =
-    let s = one_first (write_by 1 stall) (end_from 1 (Until 0 12 1 0 n ∷ map write_command (tables ++ free ∷ []))) slots xs end h in
+pub plan_record : (stalls tables : List RegPair) (n : ℕ) (slots : List (Option OpenSlot)) (xs : List LoggedEvent) (end : SectionEnd) → end_from 1 (plan_of stalls tables n) slots xs ≡ Some end → IsPlanRecord stalls tables xs
+plan_record stalls tables n slots xs end h =
+    let s = writes_first 1 stalls (Until 0 12 1 0 n ∷ map write_command (tables ++ free ∷ [])) slots xs end h in
     let p = polled n (end_from 1 (map write_command (tables ++ free ∷ []))) slots s.rest end s.goes in
     record {
       first = s.first;
       reads = p.reads;
       rest = p.rest;
-      is = s.is ∙ ap (λ ys. s.first ∷ ys) p.is;
-      stalls = same_write 0 1 12 1 s.first.event s.event;
+      is = s.is ∙ ap (λ ys. s.first ++ ys) p.is;
+      stalling = s.events;
       events = p.events;
       ends = ending p.reads p.rest p.ends;
     }
   where
-    ending : (reads rest : List LoggedEvent) → (AllByRecursion Misses reads × (rest ≡ [])) ⊎ (HasHit reads × (end_from 1 (map write_command (tables ++ free ∷ [])) slots rest ≡ Some end))
-        → (AllByRecursion Misses reads × (rest ≡ [])) ⊎ (HasHit reads × (map event_of rest ≡ map (write_by 1) (tables ++ free ∷ [])))
+    ending : (reads rest : List LoggedEvent) → (AllByRecursion Misses reads × (rest ≡ [])) ⊎ (HasHit reads × (end_from 1 (map write_command (tables ++ free ∷ [])) slots rest ≡ Some end)) → PlanEnds tables reads rest
     ending reads rest (inl m) = inl m
     ending reads rest (inr m) = inr (m.0, writes_record 1 (tables ++ free ∷ []) slots rest end m.1)

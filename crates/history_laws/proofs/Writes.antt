@@ -1,5 +1,5 @@
 -- The register writes of events, and lists of events cut at a place.
-use Rattle.std.proofs.Common.{◌≡◌, ℕ, zero, suc, ◌+◌, ◌<◌, ◌≤◌, ◌++◌, Bool, true, false, cond, List, [], ◌∷◌, Some, None, length, map, filter, take, drop, append_assoc, refl, sym, ap, subst, ◌∙◌, arith}
+use Rattle.std.proofs.Common.{◌≡◌, ℕ, zero, suc, ◌+◌, ◌<◌, ◌≤◌, ◌++◌, inl, inr, ◌⊎◌, Bool, true, false, cond, List, [], ◌∷◌, Some, None, length, map, filter, take, drop, append_assoc, refl, sym, ap, subst, ◌∙◌, arith}
 use Rattle.std.specs.Prelude.{slice_get}
 use Rattle.std.specs.List.{AllByRecursion}
 use Rattle.event_words.specs.declared.event.Event.{Event}
@@ -110,3 +110,34 @@ pub get_low : {A : Type 0} (xs ys : List A) (k : ℕ) → k < length xs → slic
 get_low [] ys k l = absurd (omega arith)
 get_low (x ∷ xs) ys zero l = refl
 get_low (x ∷ xs) ys (suc k) l = get_low xs ys k (omega arith)
+
+-- One list that is cut at two places: the first cut is in the first part, or in the second.
+pub record CutInFirst {A : Type 0} (q z f g : List A) : Type 0 where
+  pub more : List A
+  pub first : f ≡ q ++ more
+  pub rest : z ≡ more ++ g
+
+pub record CutInSecond {A : Type 0} (q z f g : List A) : Type 0 where
+  pub more : List A
+  pub taken : q ≡ f ++ more
+  pub rest : more ++ z ≡ g
+
+pub two_cuts : {A : Type 0} (q z f g : List A) → q ++ z ≡ f ++ g → CutInFirst q z f g ⊎ CutInSecond q z f g
+two_cuts [] z f g e = inl (record { more = f; first = refl; rest = e })
+two_cuts (x ∷ q) z [] g e = inr (record { more = x ∷ q; taken = refl; rest = e })
+two_cuts (x ∷ q) z (y ∷ f) g e =
+    let same : x ≡ y = cc in
+    let tail : q ++ z ≡ f ++ g = cc in
+    by same (two_cuts q z f g tail)
+  where
+    by : x ≡ y → CutInFirst q z f g ⊎ CutInSecond q z f g → CutInFirst (x ∷ q) z (y ∷ f) g ⊎ CutInSecond (x ∷ q) z (y ∷ f) g
+    by same (inl c) = inl (record { more = c.more; first = ap (λ w. w ∷ f) (sym same) ∙ ap (λ ys. x ∷ ys) c.first; rest = c.rest })
+    by same (inr c) = inr (record { more = c.more; taken = ap (λ w. w ∷ q) same ∙ ap (λ ys. y ∷ ys) c.taken; rest = c.rest })
+
+pub same_first : {A : Type 0} (xs ys zs : List A) → xs ++ ys ≡ xs ++ zs → ys ≡ zs
+same_first [] ys zs e = e
+same_first (x ∷ xs) ys zs e = let rest : xs ++ ys ≡ xs ++ zs = cc in same_first xs ys zs rest
+
+pub nothing_after : {A : Type 0} (xs ys : List A) → xs ++ ys ≡ [] → ys ≡ []
+nothing_after [] ys e = e
+nothing_after (x ∷ xs) ys e = absurd (let n : x ∷ (xs ++ ys) ≡ [] = e in cc)

@@ -111,19 +111,19 @@ image_shape p = refl
 
 -- ---- what decides
 
--- the last values are the same, but for MDSTALL
+-- the last values are the same, but for MDSTALL and RRIDSCP
 abbrev pub SameValues : List RegPair → List RegPair → Type 0
-SameValues ps qs = (i : ℕ) → (i ≡ 12 → ⊥) → value_of ps i ≡ value_of qs i
+SameValues ps qs = (i : ℕ) → (i ≡ 12 → ⊥) → (i ≡ 14 → ⊥) → value_of ps i ≡ value_of qs i
 
 pub decides_standing : (r : Registers) (p : PolicyOf) (ps : List RegPair) → IsPolicy p → need_refusal p ≡ None → Stands p.shape ps r → SameValues ps (image_of p).writes → (a : Access) → IsValidAccess a
     → kind_of (decision r a) ≡ policy_decision p a
 decides_standing r p ps good h c same a valid =
     let fit = room p good h in
     let written = stands_written p.shape (writes_of p.shape (guards_of_policy p) (hardware p.domains)) good.shape (writes_next p.shape (guards_of_policy p) (hardware p.domains) fit (few_guards p fit)) in
-    let values : (i : ℕ) → (i ≡ 12 → ⊥) → value_of ps i ≡ value_of (writes_of p.shape (guards_of_policy p) (hardware p.domains)) i = λ i ne. same i ne ∙ ap (λ qs. value_of qs i) (image_writes p) in
+    let values : SameValues ps (writes_of p.shape (guards_of_policy p) (hardware p.domains)) = λ i a b. same i a b ∙ ap (λ qs. value_of qs i) (image_writes p) in
     decides_alike r p good fit (record {
       shape = c.unlocked.shape;
-      enabled = c.enabled ∙ ap (λ n. n == 1) (values 2 (λ e. absurd (omega arith)) ∙ one_of p.shape (guards_of_policy p) (hardware p.domains));
-      prio = c.prio ∙ (values 4 (λ e. absurd (omega arith)) ∙ guards_of p.shape (guards_of_policy p) (hardware p.domains) fit);
-      tables = λ i l. c.tables i l ∙ (values i (λ e. absurd (omega arith)) ∙ (sym (written.tables i l) ∙ ap (λ s. word_at s i) (after_is p.shape (guards_of_policy p) (hardware p.domains))));
+      enabled = c.enabled ∙ ap (λ n. n == 1) (values 2 (λ e. absurd (omega arith)) (λ e. absurd (omega arith)) ∙ one_of p.shape (guards_of_policy p) (hardware p.domains));
+      prio = c.prio ∙ (values 4 (λ e. absurd (omega arith)) (λ e. absurd (omega arith)) ∙ guards_of p.shape (guards_of_policy p) (hardware p.domains) fit);
+      tables = λ i l. c.tables i l ∙ (values i (λ e. absurd (omega arith)) (λ e. absurd (omega arith)) ∙ (sym (written.tables i l) ∙ ap (λ s. word_at s i) (after_is p.shape (guards_of_policy p) (hardware p.domains))));
     }) a valid

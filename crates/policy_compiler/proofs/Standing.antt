@@ -106,16 +106,16 @@ stands_table h ps r w p c =
           (cases_eq i w.index);
     }
 
--- of MDSTALL
-stands_stall : (h : Shape) (ps : List RegPair) (r : Registers) (v x : ℕ) → Stands h ps r → Stands h (ps ++ pair 12 v ∷ []) (set_word r 12 x)
-stands_stall h ps r v x c =
-    let two : word_at (set_word r 12 x) 2 ≡ word_at r 2 = other r.words 12 2 x (λ e. absurd (omega arith)) in
+-- of a register that holds no lock, no enable bit and no number of priority entries
+stands_other : (h : Shape) (ps : List RegPair) (r : Registers) (j v x : ℕ) → 4 < j → j < 16 → Stands h ps r → Stands h (ps ++ pair j v ∷ []) (set_word r j x)
+stands_other h ps r j v x above below c =
+    let two : word_at (set_word r j x) 2 ≡ word_at r 2 = other r.words j 2 x (λ e. absurd (omega arith)) in
     record {
-      unlocked = unlocked_set h r 12 x (inl (omega arith)) (low_even h 12 x (omega arith)) c.unlocked;
+      unlocked = unlocked_set h r j x (inl (omega arith)) (low_even h j x (omega arith)) c.unlocked;
       program = ap (λ x. has_bit x 13) two ∙ c.program;
-      enabled = ap (λ x. has_bit x 0) two ∙ (c.enabled ∙ ap (λ n. n == 1) (sym (value_other ps (pair 12 v) 2 (λ e. absurd (omega arith)))));
-      prio = ap (bits_of 0 16) (other r.words 12 4 x (λ e. absurd (omega arith))) ∙ (c.prio ∙ sym (value_other ps (pair 12 v) 4 (λ e. absurd (omega arith))));
-      tables = λ i l. other r.words 12 i x (λ e. absurd (omega arith)) ∙ (c.tables i l ∙ sym (value_other ps (pair 12 v) i (λ e. absurd (omega arith))));
+      enabled = ap (λ x. has_bit x 0) two ∙ (c.enabled ∙ ap (λ n. n == 1) (sym (value_other ps (pair j v) 2 (λ e. absurd (omega arith)))));
+      prio = ap (bits_of 0 16) (other r.words j 4 x (λ e. absurd (omega arith))) ∙ (c.prio ∙ sym (value_other ps (pair j v) 4 (λ e. absurd (omega arith))));
+      tables = λ i l. other r.words j i x (λ e. absurd (omega arith)) ∙ (c.tables i l ∙ sym (value_other ps (pair j v) i (λ e. absurd (omega arith))));
     }
 
 prio_low : (r : Registers) (g : ℕ) → is_prient_prog r ≡ true → g < 2 ^ 16 → bits_of 0 16 (prio_word r g) ≡ g
@@ -201,9 +201,13 @@ stands_enable h ps r good z c =
 abbrev pub IsRewrite : Shape → RegPair → Type 0
 IsRewrite h w = ((w.index ≡ 4) × (w.value < 2 ^ 16)) ⊎ IsPlain h w
 
--- or of MDSTALL
+-- of MDSTALL, with a value that selects no domain, or of RRIDSCP
+abbrev pub IsStall : RegPair → Type 0
+IsStall w = ((w.index ≡ 12) × (w.value < 2)) ⊎ (w.index ≡ 14)
+
+-- one or the other
 abbrev pub IsTame : Shape → RegPair → Type 0
-IsTame h w = ((w.index ≡ 4) × (w.value < 2 ^ 16)) ⊎ ((w.index ≡ 12) ⊎ IsPlain h w)
+IsTame h w = ((w.index ≡ 4) × (w.value < 2 ^ 16)) ⊎ (IsStall w ⊎ IsPlain h w)
 
 -- or the one that sets the enable bit
 abbrev pub IsNext : Shape → List RegPair → RegPair → Type 0
@@ -217,9 +221,12 @@ pub stands_step : (h : Shape) (ps : List RegPair) (r : Registers) (w : RegPair) 
 stands_step h ps r w good (inl (inl t)) c =
     let same : pair 4 w.value ≡ w = ap (λ i. pair i w.value) (sym t.0) in
     subst (λ x. Stands h (ps ++ x ∷ []) (guarded_write r x)) same (stands_prio h ps r w.value t.1 c)
-stands_step h ps r w good (inl (inr (inl t))) c =
-    let same : pair 12 w.value ≡ w = ap (λ i. pair i w.value) (sym t) in
-    subst (λ x. Stands h (ps ++ x ∷ []) (guarded_write r x)) same (stands_stall h ps r w.value _ c)
+stands_step h ps r w good (inl (inr (inl (inl t)))) c =
+    let same : pair 12 w.value ≡ w = ap (λ i. pair i w.value) (sym t.0) in
+    subst (λ x. Stands h (ps ++ x ∷ []) (guarded_write r x)) same (stands_other h ps r 12 w.value _ (omega arith) (omega arith) c)
+stands_step h ps r w good (inl (inr (inl (inr t)))) c =
+    let same : pair 14 w.value ≡ w = ap (λ i. pair i w.value) (sym t) in
+    subst (λ x. Stands h (ps ++ x ∷ []) (guarded_write r x)) same (stands_other h ps r 14 w.value _ (omega arith) (omega arith) c)
 stands_step h ps r w good (inl (inr (inr p))) c =
     subst (λ s. Stands h (ps ++ w ∷ []) s) (sym (p.alone r c.unlocked)) (stands_table h ps r w p c)
 stands_step h ps r w good (inr t) c =
