@@ -16,3 +16,4 @@ pub mod Printed
 pub mod Canonical
 pub mod UpdateTexts
 pub mod UpdateSizes
+pub mod ReportTexts

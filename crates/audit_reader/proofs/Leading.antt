@@ -1,0 +1,51 @@
+-- The number that a text begins with.
+use Rattle.std.proofs.Common.{◌≡◌, ℕ, zero, suc, ◌+◌, ◌*◌, ◌^◌, ◌<◌, ◌≤◌, List, [], ◌∷◌, ◌++◌, Option, Some, None, length, drop, get_or, decimal, codes, refl, sym, ap, ◌∙◌, arith, drop-cons, add-one}
+use Rattle.std.specs.Char.{digit_value}
+use Rattle.std.specs.Str.Parse.{AllDigits, digits_value_after}
+use Rattle.std.proofs.lemmas.Fmt.{decimal_is_IsNumeral}
+use Rattle.std.proofs.lemmas.Str.{digit_value_digit}
+use Rattle.std.proofs.lemmas.Str.Parse.{digit_from_value}
+use Rattle.audit_reader.specs.Digits.{digit_at}
+use Rattle.audit_reader.proofs.Fronts.{digit_of}
+
+-- after the number so far, with a digit if one comes
+abbrev pub with_digit : Option ℕ → ℕ → (ℕ → ℕ) → ℕ
+with_digit None number go = number
+with_digit (Some d) number go = go (number * 10 + d)
+
+-- the number that the digits write with which the text begins, when they follow those of a number
+abbrev pub leading : ℕ → List ℕ → ℕ
+leading number [] = number
+leading number (b ∷ bs) = with_digit (digit_at b) number (λ m. leading m bs)
+
+pub grows : (number : ℕ) (bs : List ℕ) → number ≤ leading number bs
+grows number [] = omega arith
+grows number (b ∷ bs) = by (digit_at b) (λ m. grows m bs)
+  where
+    by : (o : Option ℕ) → ((m : ℕ) → m ≤ leading m bs) → number ≤ with_digit o number (λ m. leading m bs)
+    by None go = omega arith
+    by (Some d) go = let h = go (number * 10 + d) in omega (arith, h)
+
+-- one byte more
+pub more : (number i : ℕ) (text : List ℕ) → i < length text → leading number (drop i text) ≡ with_digit (digit_at (get_or text i 0)) number (λ m. leading m (drop (i + 1) text))
+more number i text h = ap (leading number) (drop-cons text i 0 h ∙ ap (λ n. get_or text i 0 ∷ drop n text) (sym (add-one i)))
+
+pub at_end : (number i : ℕ) (text : List ℕ) → length text ≤ i → leading number (drop i text) ≡ number
+at_end number i text h = ap (leading number) (dropped text i h)
+  where
+    dropped : (bs : List ℕ) (n : ℕ) → length bs ≤ n → drop n bs ≡ []
+    dropped [] zero l = refl
+    dropped [] (suc n) l = refl
+    dropped (b ∷ bs) zero l = absurd (omega (arith, l))
+    dropped (b ∷ bs) (suc n) l = dropped bs n (omega (arith, l))
+
+digit_is : (c : ℕ) → digit_value c < 10 → digit_at c ≡ Some (digit_value c)
+digit_is c h = let same = digit_value_digit c (digit_from_value c h) in digit_of c (digit_value c) h (omega (arith, same))
+
+of_digits : (number : ℕ) (ds rest : List ℕ) → AllDigits 10 ds → leading number (ds ++ (10 ∷ rest)) ≡ digits_value_after 10 number ds
+of_digits number [] rest h = refl
+of_digits number (c ∷ cs) rest h = ap (λ o. with_digit o number (λ m. leading m (cs ++ (10 ∷ rest)))) (digit_is c h.0) ∙ of_digits (number * 10 + digit_value c) cs rest h.1
+
+-- the number of a text that begins with a decimal number and a line feed
+pub of_decimal : (n : ℕ) (rest text : List ℕ) → n < 2 ^ 64 → text ≡ decimal n ++ (codes "\n" ++ rest) → leading 0 text ≡ n
+of_decimal n rest text l e = let d = decimal_is_IsNumeral n l in ap (leading 0) e ∙ of_digits 0 (decimal n) rest d.0.1 ∙ d.1
