@@ -2,10 +2,10 @@
 //! the enabling of the unit and the freezing of priority entries guard.
 #![tactic(auto)]
 
-ghost use Rattle.std.specs.Prelude.{◌≡◌, ℕ, ◌<◌, ◌^◌, IsTrue};
-ghost use Rattle.event_words.specs.Registers.{has_bit, has_register, index_of};
+ghost use Rattle.std.specs.Prelude.{◌≡◌, ℕ, ◌<◌, ◌^◌, IsTrue, sum_by};
+ghost use Rattle.event_words.specs.Registers.{has_bit, has_register, index_of, fields_of};
 ghost use Rattle.event_words.specs.Valid.{IsValidShape};
-ghost use Rattle.event_words.specs.Guards.{is_locked_domain, is_guarded, guarded_bits, whole};
+ghost use Rattle.event_words.specs.Guards.{is_locked_domain, is_guarded, guarded_bits, whole, read_only_bits};
 ghost use Rattle.lock_rules.specs.Masks.{where_true, srcmd_guards, perm_guards, mdlck_guards, entry_guards, low_locks, high_locks, locks_of, keep_mask};
 
 use event_words::Register;
@@ -21,7 +21,25 @@ fn whole_where(regs: &Regs, register: Register, holds: bool) -> u32
     requires { IsTrue (has_register regs.now.shape register) }
     ensures { result ≡ where_true holds (whole regs.now.shape register) }
 {
-    where_true(holds, whole(regs.shape(), register))
+    if holds {
+        whole(regs.shape(), register)
+    } else {
+        0
+    }
+}
+
+/// The bits of a register's read-only fields. Only HWCFG0, HWCFG1 and HWCFG2 have such fields.
+fn read_only_bits(regs: &Regs, register: Register) -> u32
+    requires shape { IsValidShape regs.now.shape }
+    requires there { IsTrue (has_register regs.now.shape register) }
+    ensures { result ≡ sum_by read_only_bits (fields_of regs.now.shape register) }
+{
+    match register {
+        Register::Hwcfg0 | Register::Hwcfg1 | Register::Hwcfg2 => {
+            read_only(regs.shape(), register)
+        }
+        _ => 0,
+    }
 }
 
 /// The lock bits of domains 0 to 30, where the low registers have the domains' bits.
@@ -130,7 +148,7 @@ fn mask_of(regs: &Regs, index: u32) -> u32
     ensures { result ≡ keep_mask regs.now index }
 {
     match register_at(regs.shape(), index) {
-        Some(register) => read_only(regs.shape(), register) | locks_of(regs, register),
+        Some(register) => read_only_bits(regs, register) | locks_of(regs, register),
         None => 0,
     }
 }
