@@ -1,0 +1,3 @@
+mod EntryRanges
+mod Examples
+mod ViewKinds
