@@ -1,5 +1,5 @@
 -- The images of two policies that fit one unit write its registers, and their plan is valid.
-use Rattle.std.proofs.Common.{◌≡◌, ℕ, None, List, [], ◌∷◌, arith, refl, sym, ap, ◌∙◌, subst}
+use Rattle.std.proofs.Common.{◌≡◌, ℕ, None, List, [], ◌∷◌, arith, refl, sym, ap, ◌≤◌, ◌∙◌, subst}
 use Rattle.std.specs.List.{AllByRecursion}
 use Rattle.event_words.specs.declared.shape.Shape.{Shape}
 use Rattle.event_words.specs.Registers.{index_count}
@@ -10,10 +10,10 @@ use Rattle.policy_compiler.specs.Images.{ImageOf, image_of}
 use Rattle.policy_compiler.specs.Needs.{need_refusal}
 use Rattle.policy_compiler.proofs.Puts.{AreWithin}
 use Rattle.policy_compiler.proofs.Within.{AreWords, image_within, image_words}
-use Rattle.update_planner.specs.Plans.{plan_commands}
+use Rattle.update_planner.specs.Plans.{rewrites, rewriting, plan_commands}
 use Rattle.update_planner.specs.Values.{IsOfUnit, WritesUnit}
 use Rattle.update_planner.specs.Gives.{section_with}
-use Rattle.update_planner.proofs.Sections.{valid_plan}
+use Rattle.update_planner.proofs.Sections.{IsValidTail, valid_rewriting, valid_plan}
 
 image_shape : (p : PolicyOf) → (image_of p).shape ≡ p.shape
 unfolding image_of
@@ -29,10 +29,21 @@ unit_writes old new i j e f good fits same =
     let shape : old.shape ≡ j.shape = same ∙ (sym (image_shape new) ∙ ap (λ (x : ImageOf). x.shape) (sym f)) in
     subst (λ x. WritesUnit j.shape x) (sym e) (subst (λ h. WritesUnit h (image_of old)) shape own)
 
-pub valid_between : (new : PolicyOf) (i j : ImageOf) (polls : ℕ) → j ≡ image_of new → IsPolicy new → need_refusal new ≡ None → IsMax polls → IsValidSection (section_with (plan_commands i j polls))
-valid_between new i j polls f good fits max =
+shape_at : (new : PolicyOf) (j : ImageOf) → j ≡ image_of new → IsPolicy new → index_count j.shape ≤ 6144
+shape_at new j f good =
     let shape : j.shape ≡ new.shape = ap (λ (x : ImageOf). x.shape) f ∙ image_shape new in
     let entries : j.shape.entries ≡ new.shape.entries = ap (λ (x : Shape). x.entries) shape in
     let few = good.shape.valid.entries in
-    let words : AreWords j.writes = subst (λ (x : ImageOf). AreWords x.writes) (sym f) (image_words new good fits) in
-    valid_plan i j polls max (omega arith) words
+    omega arith
+
+words_at : (new : PolicyOf) (j : ImageOf) → j ≡ image_of new → IsPolicy new → need_refusal new ≡ None → AreWords j.writes
+words_at new j f good fits = subst (λ (x : ImageOf). AreWords x.writes) (sym f) (image_words new good fits)
+
+-- from the drained reading on
+pub valid_tail : (new : PolicyOf) (i j : ImageOf) (polls : ℕ) → j ≡ image_of new → IsPolicy new → need_refusal new ≡ None → IsMax polls → IsValidTail (rewriting (rewrites i j) polls)
+valid_tail new i j polls f good fits max =
+    valid_rewriting i j polls max (shape_at new j f good) (words_at new j f good fits)
+
+pub valid_between : (new : PolicyOf) (i j : ImageOf) (polls : ℕ) → j ≡ image_of new → IsPolicy new → need_refusal new ≡ None → IsMax polls → IsValidSection (section_with (plan_commands i j polls))
+valid_between new i j polls f good fits max =
+    valid_plan i j polls max (shape_at new j f good) (words_at new j f good fits)

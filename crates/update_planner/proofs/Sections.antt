@@ -12,10 +12,11 @@ use Rattle.event_words.specs.Registers.{index_count}
 use Rattle.event_words.specs.Sections.{is_submit, IsMax, AreValidCommands, IsValidSection}
 use Rattle.event_words.specs.declared.shape.Shape.{Shape}
 use Rattle.policy_compiler.specs.declared.image.RegPair.{RegPair}
+use Rattle.policy_compiler.specs.Commands.{write_command}
 use Rattle.policy_compiler.specs.Images.{ImageOf}
 use Rattle.policy_compiler.proofs.Within.{AreWords}
-use Rattle.update_planner.specs.Plans.{written_value, is_rewritten, rewrite, rewrites, plan_commands}
-use Rattle.update_planner.specs.Values.{zero_for, rewritten_value, entry_write, IsOfUnit, WritesUnit}
+use Rattle.update_planner.specs.Plans.{written_value, is_rewritten, rewrite, rewrites, rewriting, plan_commands}
+use Rattle.update_planner.specs.Values.{zero_for, rewritten_value, entry_pair, IsOfUnit, WritesUnit}
 use Rattle.update_planner.specs.Gives.{section_with}
 use Rattle.update_planner.proofs.Order.{held, with_value, IsOver, BeginsFrom, entries_are}
 
@@ -49,7 +50,7 @@ none_over old new a b q l =
     by_test true = refl
     by_test false = refl
 
-written_pairs : (new : ImageOf) (is : List ℕ) → map entry_write (map (with_value (new_value new)) is) ≡ map (rewrite new) is
+written_pairs : (new : ImageOf) (is : List ℕ) → map write_command (map entry_pair (map (with_value (new_value new)) is)) ≡ map (rewrite new) is
 written_pairs new [] = refl
 written_pairs new (i ∷ is) = ap (λ cs. rewrite new i ∷ cs) (written_pairs new is)
 
@@ -58,13 +59,13 @@ begins [] = tt
 begins (e ∷ es) = omega arith
 
 -- The writes of a map's entries are the plan's.
-pub entries_rewrite : (old new : ImageOf) (m : BTreeMap ℕ ℕ) → WritesUnit new.shape old → WritesUnit new.shape new → IsOrdered nat_cmp m
-    → ((q : ℕ) → get nat_cmp m q ≡ rewritten_value old.writes new.writes q) → map entry_write m.entries ≡ rewrites old new
+pub pairs_rewrite : (old new : ImageOf) (m : BTreeMap ℕ ℕ) (ws : List RegPair) → ws ≡ map entry_pair m.entries → WritesUnit new.shape old → WritesUnit new.shape new → IsOrdered nat_cmp m
+    → ((q : ℕ) → get nat_cmp m q ≡ rewritten_value old.writes new.writes q) → map write_command ws ≡ rewrites old new
 unfolding rewrites
-entries_rewrite old new m a b ordered finds =
+pairs_rewrite old new m ws is a b ordered finds =
     let e = entries_are (is_rewritten old new) (new_value new) 0 (index_count new.shape) m.entries ordered (begins m.entries)
     (λ q l. finds q ∙ value_held (written_value old.writes q) (written_value new.writes q) (q == 2)) (none_over old new a b) in
-    ap (map entry_write) e ∙ written_pairs new (filter (is_rewritten old new) (range_with_len 0 (index_count new.shape)))
+    ap (map write_command) (is ∙ ap (map entry_pair) e) ∙ written_pairs new (filter (is_rewritten old new) (range_with_len 0 (index_count new.shape)))
 
 -- ---- the section
 
@@ -112,22 +113,35 @@ none_submit : (new : ImageOf) (is : List ℕ) → count_by is_submit (map (rewri
 none_submit new [] = refl
 none_submit new (i ∷ is) = none_submit new is
 
--- The commands of a plan make a valid section.
-pub valid_plan : (old new : ImageOf) (polls : ℕ) → IsMax polls → index_count new.shape ≤ 6144 → AreWords new.writes → IsValidSection (section_with (plan_commands old new polls))
-unfolding plan_commands rewrites
-valid_plan old new polls max few words =
+-- The commands from the drained reading on are valid, and none submits.
+pub record IsValidTail (commands : List Command) : Type 0 where
+  pub few : length commands ≤ 8192
+  pub slots : count_by is_submit commands ≡ 0
+  pub all : AreValidCommands 0 commands
+
+pub valid_rewriting : (old new : ImageOf) (polls : ℕ) → IsMax polls → index_count new.shape ≤ 6144 → AreWords new.writes → IsValidTail (rewriting (rewrites old new) polls)
+unfolding rewrites
+valid_rewriting old new polls max few words =
     let is : List ℕ = filter (is_rewritten old new) (range_with_len 0 (index_count new.shape)) in
     let short = filter_few (is_rewritten old new) 0 (index_count new.shape) in
     let l = length-append (map (rewrite new) is) release in
     let m = length-map is (rewrite new) in
     record {
       few = omega arith;
-      slots = sym (none_submit new is);
-      commands = (
-        (omega arith, omega arith, omega arith),
-        (
-          (omega arith, omega arith, omega arith, omega arith, max),
-          valid_rewrites new is words (indexes_below (is_rewritten old new) 0 (index_count new.shape) (omega arith)),
-        ),
+      slots = none_submit new is;
+      all = (
+        (omega arith, omega arith, omega arith, omega arith, max),
+        valid_rewrites new is words (indexes_below (is_rewritten old new) 0 (index_count new.shape) (omega arith)),
       );
+    }
+
+-- The commands of a plan make a valid section.
+pub valid_plan : (old new : ImageOf) (polls : ℕ) → IsMax polls → index_count new.shape ≤ 6144 → AreWords new.writes → IsValidSection (section_with (plan_commands old new polls))
+unfolding plan_commands
+valid_plan old new polls max few words =
+    let tail = valid_rewriting old new polls max few words in
+    record {
+      few = omega (arith, tail.few);
+      slots = sym tail.slots;
+      commands = ((omega arith, omega arith, omega arith), tail.all);
     }

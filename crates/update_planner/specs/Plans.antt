@@ -29,7 +29,12 @@ rewrite new index = Write 0 index (unwrap_or (written_value new.writes index) 0)
 unfoldable pub rewrites : ImageOf → ImageOf → List Command
 rewrites old new = map (rewrite new) (filter (is_rewritten old new) (range_with_len 0 (index_count new.shape)))
 
+-- Stalled accesses drain, the registers are rewritten, and the stall ends.
+abbrev pub rewriting : List Command → ℕ → List Command
+rewriting writes polls =
+    Until 0 (index_of Mdstall) 1 0 polls ∷ (writes ++ Write 0 (index_of Mdstall) 0 ∷ [])
+
 -- All requesters stall, stalled accesses drain, the registers are rewritten, and the stall ends.
 unfoldable pub plan_commands : ImageOf → ImageOf → ℕ → List Command
 plan_commands old new polls =
-    Write 0 (index_of Mdstall) 1 ∷ Until 0 (index_of Mdstall) 1 0 polls ∷ (rewrites old new ++ Write 0 (index_of Mdstall) 0 ∷ [])
+    Write 0 (index_of Mdstall) 1 ∷ rewriting (rewrites old new) polls

@@ -4,8 +4,6 @@ use Rattle.std.specs.List.{AllByRecursion}
 use Rattle.std.specs.Option.{option_or, option_map}
 use Rattle.event_words.specs.declared.register.Register.TheVariants.{Hwcfg0}
 use Rattle.event_words.specs.declared.shape.Shape.{Shape}
-use Rattle.event_words.specs.declared.section.Command.{Command}
-use Rattle.event_words.specs.declared.section.Command.TheVariants.{Write}
 use Rattle.event_words.specs.Registers.{index_of, index_count}
 use Rattle.policy_compiler.specs.declared.image.RegPair.{RegPair}
 use Rattle.policy_compiler.specs.Images.{ImageOf}
@@ -27,9 +25,9 @@ abbrev pub rewritten_value : List RegPair → List RegPair → ℕ → Option �
 rewritten_value old new index =
     if index == index_of Hwcfg0 then None else values_over new (zeros_over old None index) index
 
--- the write of a register with its value
-abbrev pub entry_write : ℕ × ℕ → Command
-entry_write e = Write 0 e.0 e.1
+-- a register and its value as a write
+abbrev pub entry_pair : ℕ × ℕ → RegPair
+entry_pair e = record { index = e.0; value = e.1 }
 
 -- writes of registers that a unit of this shape may have
 abbrev pub IsOfUnit : Shape → RegPair → Type 0

@@ -10,7 +10,9 @@ mod refusal;
 mod values;
 
 pub use answer::{Plan, PlanError};
-pub use planning::plan;
+pub use commands::{rewrite, rewrites};
+pub use planning::{image, plan};
+pub use refusal::plan_refusal;
 
 #[cfg(test)]
 mod tests;
