@@ -1,4 +1,5 @@
--- The view of a requester: what the tables say about it, entry by entry.
+-- The view of a requester: what the tables say about it, entry by entry. Of an entry it has whether that is
+-- a priority entry, its first byte, the byte past its last, and whether it grants a read, a write and a fetch.
 use Rattle.std.specs.Prelude.{ℕ, ◌+◌, ◌*◌, ◌^◌, ◌/◌, ◌==◌, ◌&&◌, nat_lt, Bool, true, false, List, [], ◌∷◌, Option, Some, None, if◌then◌else◌, filter_map, option_map}
 use Rattle.std.specs.Bool.{beq}
 use Rattle.std.specs.Int.{trailing_ones, w64}
@@ -7,16 +8,7 @@ use Rattle.event_words.specs.Registers.{Registers}
 use Rattle.entry_ranges.specs.declared.ByteRange.{ByteRange}
 use Rattle.event_words.specs.Entries.{word_address, mode_of, bottom_of}
 use Rattle.event_words.specs.Decisions.{is_entry_of, entry_grants, prio_count, entries}
-
--- An entry as a requester sees it: whether it is a priority entry, its first byte, the byte past its last,
--- and whether it grants the requester a read, a write and a fetch.
-pub record EntryView : Type 0 where
-  pub priority : Bool
-  pub from : ℕ
-  pub to : ℕ
-  pub read : Bool
-  pub write : Bool
-  pub fetch : Bool
+pub use Rattle.narrow_plans.specs.declared.views.EntryView.{EntryView}
 
 -- ---- the bytes of an entry as a range
 

@@ -1,8 +1,17 @@
 //! Narrow plans: the commands that take a unit from one policy to another while only those requesters
 //! stall whose rules change in some state on the way.
+//!
+//! What a requester's rules are in a state is its view: what it sees of the entries. The definitions of
+//! views, of the states and of the commands stand in `specs/`.
 #![tactic(auto)]
 
 ghost use Rattle.narrow_plans.specs.Laws.{LawRanges, LawViews};
+
+mod planning;
+mod states;
+mod views;
+
+pub use planning::narrow;
 
 /// The range of an entry's view has exactly the entry's bytes.
 pub fn law_ranges()
@@ -13,3 +22,6 @@ pub fn law_ranges()
 pub fn law_views()
     ensures { LawViews }
 {}
+
+#[cfg(test)]
+mod tests;
