@@ -30,9 +30,14 @@ same_commands : (new : ImageOf) (is : List ℕ) → map (rewrite new) is ++ Writ
 same_commands new [] = refl
 same_commands new (i ∷ is) = ap (λ cs. rewrite new i ∷ cs) (same_commands new is)
 
+-- the commands after the reads
+pub rewrites_are : (old new : ImageOf) → rewrites old new ++ Write 0 12 0 ∷ [] ≡ map write_command (tables_between old new ++ free ∷ [])
+unfolding rewrites
+rewrites_are old new = same_commands new (filter (is_rewritten old new) (range_with_len 0 (index_count new.shape)))
+
 pub plan_is : (old new : ImageOf) (polls : ℕ) → plan_commands old new polls ≡ plan_of (stall ∷ []) (tables_between old new) polls
-unfolding plan_commands rewrites
-plan_is old new polls = ap (λ cs. Write 0 12 1 ∷ Until 0 12 1 0 polls ∷ cs) (same_commands new (filter (is_rewritten old new) (range_with_len 0 (index_count new.shape))))
+unfolding plan_commands
+plan_is old new polls = ap (λ cs. Write 0 12 1 ∷ Until 0 12 1 0 polls ∷ cs) (rewrites_are old new)
 
 -- ---- values
 

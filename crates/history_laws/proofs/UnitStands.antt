@@ -201,7 +201,7 @@ next_write h es k e w n q r =
     next_at h [] (writes (take k es)) (writes (drop (suc k) es)) w (subst (AreNext h []) (writes_cut es k e q ∙ ap (λ ws. writes (take k es) ++ (ws ++ writes (drop (suc k) es))) r) n)
 
 -- The event of a place writes what its unit takes of it.
-record IsTakenFrom (g : History) (k : ℕ) (e : Event) : Type 0 where
+pub record IsTakenFrom (g : History) (k : ℕ) (e : Event) : Type 0 where
   pub event : Event
   pub here : event_at g k ≡ Some event
   pub writes : write_of event ≡ write_of e
@@ -221,7 +221,7 @@ write_taken aims (Wide unit caller rrid kind len) e q =
     (λ t s. same_write (Submit unit caller a) e s)
     (λ t s. absurd (let n : None ≡ Some e = s in cc)) q
 
-taken_from : (g : History) (k : ℕ) (e : Event) → taken_at g k ≡ Some e → IsTakenFrom g k e
+pub taken_from : (g : History) (k : ℕ) (e : Event) → taken_at g k ≡ Some e → IsTakenFrom g k e
 taken_from g k e q = by (event_at g k) refl q
   where
     by : (o : Option Event) → event_at g k ≡ o → option_and_then (taken_as (aims_at g k)) o ≡ Some e → IsTakenFrom g k e

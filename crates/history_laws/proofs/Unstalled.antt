@@ -72,7 +72,7 @@ by_flag : (b : Bool) (x y : UnitState × Reply) → b ≡ false → x.1 ≡ repl
 by_flag true x y e h = absurd (let n : true ≡ false = e in cc)
 by_flag false x y e h = h
 
-passes : (k : ℕ) (x : UnitState) (caller : ℕ) (a : Access) → is_stalled x a.rrid ≡ false → (submit_step k x caller a).1 ≡ replies.Passed
+pub passes : (k : ℕ) (x : UnitState) (caller : ℕ) (a : Access) → is_stalled x a.rrid ≡ false → (submit_step k x caller a).1 ≡ replies.Passed
 passes k x caller a e = by_flag (is_stalled x a.rrid) (opened k caller a false x, replies.Passed) _ e refl
 
 not_held : (x : UnitState) (place caller : ℕ) → AllByRecursion IsFree x.submissions → (judge_step x place caller).1 ≡ replies.Held → ⊥

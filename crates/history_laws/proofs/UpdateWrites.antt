@@ -19,7 +19,7 @@ pub record Rewrites (h : Shape) (old new tables : List RegPair) : Type 0 where
 
 -- ---- which registers they are
 
-rewrites_not : (h : Shape) (ws : List RegPair) (i : ℕ) → i < 20 → (i ≡ 4 → ⊥) → AllByRecursion (IsRewrite h) ws → AreNot i ws
+pub rewrites_not : (h : Shape) (ws : List RegPair) (i : ℕ) → i < 20 → (i ≡ 4 → ⊥) → AllByRecursion (IsRewrite h) ws → AreNot i ws
 rewrites_not h [] i l ne all = tt
 rewrites_not h (w ∷ ws) i l ne all = (one all.0, rewrites_not h ws i l ne all.1)
   where

@@ -6,3 +6,7 @@ mod SameViews
 mod OtherEntries
 mod Along
 mod Commands
+mod NarrowStalls
+mod NarrowStates
+mod NarrowHistories
+mod NarrowExample

@@ -5,7 +5,7 @@
 //! views, of the states and of the commands stand in `specs/`.
 #![tactic(auto)]
 
-ghost use Rattle.narrow_plans.specs.Laws.{LawRanges, LawViews};
+ghost use Rattle.narrow_plans.specs.Laws.{LawNarrow, LawRanges, LawViews};
 
 mod planning;
 mod states;
@@ -21,6 +21,13 @@ pub fn law_ranges()
 /// Registers that give a requester equal views decide each valid access of it with the same kind.
 pub fn law_views()
     ensures { LawViews }
+{}
+
+/// During a narrow update each verdict on an unaffected requester is that of both policies, and none of its
+/// submissions is queued or turned away. A verdict on an affected one is the old policy's up to the drained
+/// reading and the new one's after the release, and none stands between the two.
+pub fn law_narrow()
+    ensures { LawNarrow }
 {}
 
 #[cfg(test)]
