@@ -1,5 +1,6 @@
 -- An input that is accepted is not refused.
 use Rattle.std.proofs.Common.{◌≡◌, ℕ, ◌<◌, Bool, true, false, List, Some, None, Ok, Err, sym, ap, subst, ◌∙◌, inl, inr, arith}
+use Rattle.event_words.specs.Sections.{SectionOf}
 use Rattle.script_reader.specs.Scripts.{need_of}
 use Rattle.script_reader.specs.LiveLanes.{lanes_at}
 use Rattle.script_reader.specs.UpdateTexts.{UpdateTextOf, update_text_at}
@@ -14,7 +15,8 @@ use Rattle.iopmp_program.specs.declared.refusals.policy_lines.WhichPolicy.{Which
 use Rattle.iopmp_program.specs.declared.refusals.policy_lines.WhichPolicy.TheVariants.{Only, Old, New}
 use Rattle.iopmp_program.specs.PolicyLines.{policy_line, IsNoPolicy}
 use Rattle.iopmp_program.specs.UpdateInputs.{UpdateOf, IsUpdate, IsNoUpdate, update_of}
-use Rattle.iopmp_program.specs.LiveCommand.{live_script, IsUpdateLine}
+use Rattle.iopmp_program.specs.PlanCommand.{plan_section}
+use Rattle.iopmp_program.specs.PlansBeside.{script_beside, CanRun, IsUpdateLine}
 use Rattle.iopmp_program.specs.CommandTables.{IsRefused, IsAccepted}
 
 -- a policy's text has no line
@@ -45,6 +47,25 @@ is_update lanes bytes line u is (inr (inr r)) =
     let t : is.text ≡ r.text = same_text lanes bytes is.text r.text is.headed r.headed in
     has_line r.text.new line u.new New (subst (λ x. Reads (Ok u.new) x.new) t is.new) r.fault
 
+-- an update whose plan runs beside its lanes has no line
+plan_runs : (plan : UpdateOf → SectionOf) (line : List ℕ) (refused u : UpdateOf) → refused ≡ u → CanRun (plan u) u → IsUpdateLine (plan refused) refused line → ⊥
+plan_runs plan line refused u same runs (inl f) =
+    let fault : plan_refusal u.old u.new ≡ Some f.error = subst (λ x. plan_refusal x.old x.new ≡ Some f.error) same f.fault in
+    let plans = runs.has.plans in
+    cc
+plan_runs plan line refused u same runs (inr (inl f)) =
+    let fault : lanes_at u.first_line u.lanes ≡ Err f.lanes.bad = subst (λ x. lanes_at x.first_line x.lanes ≡ Err f.lanes.bad) same f.lanes.fault in
+    let good = runs.has.lanes_are in
+    cc
+plan_runs plan line refused u same runs (inr (inr f)) =
+    let read : lanes_at u.first_line u.lanes ≡ Ok f.lanes = subst (λ x. lanes_at x.first_line x.lanes ≡ Ok f.lanes) same f.has.lanes_are in
+    let good = runs.has.lanes_are in
+    let sections : f.lanes ≡ runs.lanes = cc in
+    let many = subst (λ x. 1048576 < need_of (script_beside (plan x) x f.lanes)) same f.needs.many in
+    let most = subst (λ x. 1048576 < need_of (script_beside (plan u) u x)) sections many in
+    let few = runs.few in
+    omega (arith, few, most)
+
 -- ---- each command
 
 pub never_refused : (command : Subcommand) (bytes line : List ℕ) → IsAccepted command bytes → IsRefused command bytes line → ⊥
@@ -62,27 +83,6 @@ never_refused Plan bytes line a (inr r) =
     let plans = a.is in
     cc
 never_refused Live bytes line a (inl r) = is_update true bytes line a.update a.stands_for r
-never_refused Live bytes line a (inr r) = by (same_update true bytes r.update a.update r.stands_for a.stands_for) r.is
-  where
-    u : UpdateOf
-    u = a.update
-
-    by : r.update ≡ u → IsUpdateLine r.update line → ⊥
-    by same (inl f) =
-        let fault : plan_refusal u.old u.new ≡ Some f.error = subst (λ x. plan_refusal x.old x.new ≡ Some f.error) same f.fault in
-        let plans = a.is.has.plans in
-        cc
-    by same (inr (inl f)) =
-        let fault : lanes_at u.first_line u.lanes ≡ Err f.lanes.bad = subst (λ x. lanes_at x.first_line x.lanes ≡ Err f.lanes.bad) same f.lanes.fault in
-        let good = a.is.has.lanes_are in
-        cc
-    by same (inr (inr f)) =
-        let read : lanes_at u.first_line u.lanes ≡ Ok f.lanes = subst (λ x. lanes_at x.first_line x.lanes ≡ Ok f.lanes) same f.has.lanes_are in
-        let good = a.is.has.lanes_are in
-        let sections : f.lanes ≡ a.is.lanes = cc in
-        let many = subst (λ x. 1048576 < need_of (live_script x f.lanes)) same f.needs.many in
-        let most = subst (λ x. 1048576 < need_of (live_script u x)) sections many in
-        let few = a.is.few in
-        omega (arith, few, most)
+never_refused Live bytes line a (inr r) = plan_runs plan_section line r.update a.update (same_update true bytes r.update a.update r.stands_for a.stands_for) a.is r.is
 never_refused (Gen number) bytes line a r = absurd r
 never_refused (Soak number) bytes line a r = absurd r

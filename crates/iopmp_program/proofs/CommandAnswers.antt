@@ -1,12 +1,15 @@
 -- What the parts of a command give is what the command answers.
-use Rattle.std.proofs.Common.{◌≡◌, ℕ, Bool, true, false, List, Option, Some, None, Vec, Result, Ok, Err, sym, ap, subst, inl, inr}
+use Rattle.std.proofs.Common.{◌≡◌, ℕ, Bool, true, false, List, [], ◌∷◌, Option, Some, None, Vec, Result, Ok, Err, sym, ap, subst, inl, inr}
 use Rattle.std.specs.Prelude.{IsSomeAnd}
+use Rattle.std.specs.String.{string_bytes}
 use Rattle.std.specs.declared.alloc.Global.{Global}
 use Rattle.script_reader.specs.Scripts.{ScriptOf}
 use Rattle.script_reader.specs.Answers.{reading_of}
 use Rattle.policy_compiler.specs.Policies.{PolicyOf}
 use Rattle.policy_compiler.specs.Gives.{Reads}
-use Rattle.history_laws.specs.Live.{LawLive, IsLiveHistory}
+use Rattle.event_words.specs.Sections.{SectionOf}
+use Rattle.unit_core.specs.Histories.{History, history_of}
+use Rattle.history_laws.specs.Live.{KeepsPolicies, LawLive, IsLiveHistory}
 use Rattle.iopmp_program.specs.declared.status.Status.{Status}
 use Rattle.iopmp_program.specs.declared.status.Status.TheVariants.{Done}
 use Rattle.iopmp_program.specs.declared.answer.Answer.{Answer}
@@ -19,9 +22,10 @@ use Rattle.iopmp_program.specs.ReportedRuns.{IsRun}
 use Rattle.iopmp_program.specs.RunCommand.{IsRefusal}
 use Rattle.iopmp_program.specs.CompileCommand.{IsImageText, NeedsMore}
 use Rattle.iopmp_program.specs.UpdateInputs.{UpdateOf, IsUpdate, IsReadable, IsNoUpdate, HasNoPlan}
-use Rattle.iopmp_program.specs.PlanCommand.{IsPlanText}
-use Rattle.iopmp_program.specs.LiveCommand.{live_script, IsUpdateReport, IsUpdateLine, IsLiveReport}
-use Rattle.iopmp_program.specs.UpdateScripts.{IsScriptOfUpdate, IsScriptOfUpdateOr}
+use Rattle.iopmp_program.specs.PlanCommand.{plan_section, IsPlanText, Plans}
+use Rattle.iopmp_program.specs.PlansBeside.{script_beside, IsRunBeside, IsUpdateReport, IsUpdateLine}
+use Rattle.iopmp_program.specs.LiveCommand.{IsLiveReport}
+use Rattle.iopmp_program.specs.UpdateScripts.{IsPlayedOr}
 use Rattle.iopmp_program.specs.CommandTables.{Answers}
 use Rattle.iopmp_program.proofs.UpdateRefusals.{IsPolicyOr}
 
@@ -79,46 +83,53 @@ no_plan_refused bytes u NoMemory is h = tt
 
 -- ---- live
 
--- a run of an update's script is a live history
-live_history : (history text : List ℕ) (u : UpdateOf) (script : ScriptOf) (l : IsScriptOfUpdate u script) → IsReadable u → IsRun script history text → IsLiveHistory u.old u.new u.polls l.lanes history
-live_history history text u script l good run =
-    let r : IsRun (live_script u l.lanes) history text = subst (λ s. IsRun s history text) l.is run in
+-- a run of the plan beside the lanes is a live history
+live_history : (u : UpdateOf) (plan : SectionOf) (history text : List ℕ) → IsReadable u → Plans u plan → (run : IsRunBeside plan u history text) → IsLiveHistory u.old u.new u.polls run.lanes history
+live_history u plan history text good p run =
+    let r : IsRun (script_beside (plan_section u) u run.lanes) history text = subst (λ s. IsRun (script_beside s u run.lanes) history text) p.is run.run in
     record {
       old_policy = good.old;
       new_policy = good.new;
-      shapes = l.plan.shapes;
-      old_fits = l.plan.old_fits;
-      new_fits = l.plan.new_fits;
-      quiet = l.good.write_nothing;
+      shapes = p.shapes;
+      old_fits = p.old_fits;
+      new_fits = p.new_fits;
+      quiet = run.good.write_nothing;
       legal = r.legal;
     }
 
-pub update_report : LawLive → (history text : List ℕ) (u : UpdateOf) (script : ScriptOf) → IsReadable u → IsScriptOfUpdate u script → IsRun script history text → IsUpdateReport history text u
-update_report law history text u script good l run = record {
-  lanes = l.lanes;
-  has = record { plans = l.plan.plans; lanes_are = l.lanes_are };
-  few = l.few;
-  run = subst (λ s. IsRun s history text) l.is run;
-  policies = law u.old u.new u.polls l.lanes history (live_history history text u script l good run);
-}
+-- what holds of each history of a plan holds of one that was reported
+pub beside_reported : (Keeps : PolicyOf → PolicyOf → History → Type 0) (u : UpdateOf) (plan wanted : SectionOf) (history text : List ℕ) → plan ≡ wanted → (run : IsRunBeside plan u history text) → Keeps u.old u.new (history_of (u.old.shape ∷ []) history)
+    → IsUpdateReport Keeps wanted history text u
+beside_reported Keeps u plan wanted history text is run keeps =
+    subst (λ s. IsUpdateReport Keeps s history text u) is (record { lanes = run.lanes; has = run.has; few = run.few; run = run.run; policies = keeps })
 
-abbrev pub UpdateAnswers : UpdateOf → Result Answer NoAnswer → Type 0
-UpdateAnswers u = GivesOr (λ a. ReportOf (λ history text. IsUpdateReport history text u) a.status a.history a.text.items) (IsUpdateLine u)
+abbrev pub UpdateAnswers : (PolicyOf → PolicyOf → History → Type 0) → SectionOf → UpdateOf → Result Answer NoAnswer → Type 0
+UpdateAnswers Keeps plan u = GivesOr (λ a. ReportOf (λ history text. IsUpdateReport Keeps plan history text u) a.status a.history a.text.items) (IsUpdateLine plan u)
 
-pub update_reported : LawLive → (u : UpdateOf) (script : ScriptOf) (a : Answer) → IsReadable u → IsScriptOfUpdate u script → ReportOf (IsRun script) a.status a.history a.text.items → UpdateAnswers u (Ok a)
-update_reported law u script a good l h =
-    report_as (IsRun script) (λ history text. IsUpdateReport history text u) a.status a.history a.text.items (λ words run. update_report law words a.text.items u script good l run) h
+-- so each of its answers
+pub beside_answers : (Keeps : PolicyOf → PolicyOf → History → Type 0) (u : UpdateOf) (plan wanted : SectionOf) (r : Result Answer NoAnswer) → plan ≡ wanted
+    → ((history text : List ℕ) → IsRunBeside plan u history text → Keeps u.old u.new (history_of (u.old.shape ∷ []) history)) → IsPlayedOr plan u r → UpdateAnswers Keeps wanted u r
+beside_answers Keeps u plan wanted (Ok a) is keeps h =
+    report_as (IsRunBeside plan u) (λ history text. IsUpdateReport Keeps wanted history text u) a.status a.history a.text.items
+    (λ words run. beside_reported Keeps u plan wanted words a.text.items is run (keeps words a.text.items run)) h
+beside_answers Keeps u plan wanted (Err (Refused line)) is keeps h = subst (λ s. IsUpdateLine s u (string_bytes line)) is (inr h)
+beside_answers Keeps u plan wanted (Err NoMemory) is keeps h = tt
 
-pub update_refused : (u : UpdateOf) (e : NoAnswer) → IsScriptOfUpdateOr u (Err e) → UpdateAnswers u (Err e)
-update_refused u (Refused line) h = h
-update_refused u NoMemory h = tt
+pub update_played : LawLive → (u : UpdateOf) (plan : SectionOf) (r : Result Answer NoAnswer) → IsReadable u → Plans u plan → IsPlayedOr plan u r → UpdateAnswers KeepsPolicies (plan_section u) u r
+update_played law u plan r good p h =
+    beside_answers KeepsPolicies u plan (plan_section u) r p.is (λ history text run. law u.old u.new u.polls run.lanes history (live_history u plan history text good p run)) h
+
+pub no_plan_played : (Keeps : PolicyOf → PolicyOf → History → Type 0) (u : UpdateOf) (plan : SectionOf) (e : NoAnswer)
+    → (let r : Result SectionOf NoAnswer = Err e in GivesOr (Plans u) (HasNoPlan u) r) → UpdateAnswers Keeps plan u (Err e)
+no_plan_played Keeps u plan (Refused line) h = inl h
+no_plan_played Keeps u plan NoMemory h = tt
 
 pub no_update_live : (bytes : List ℕ) (e : NoAnswer) → IsUpdateOr true bytes (Err e) → Answers Live bytes (Err e)
 no_update_live bytes (Refused line) h = inl h
 no_update_live bytes NoMemory h = tt
 
-pub live_answers : (bytes : List ℕ) (u : UpdateOf) (r : Result Answer NoAnswer) → IsUpdate true bytes u → UpdateAnswers u r → Answers Live bytes r
+pub live_answers : (bytes : List ℕ) (u : UpdateOf) (r : Result Answer NoAnswer) → IsUpdate true bytes u → UpdateAnswers KeepsPolicies (plan_section u) u r → Answers Live bytes r
 live_answers bytes u (Ok a) is h =
-    report_as (λ history text. IsUpdateReport history text u) (IsLiveReport bytes) a.status a.history a.text.items (λ words report. record { update = u; stands_for = is; is = report }) h
+    report_as (λ history text. IsUpdateReport KeepsPolicies (plan_section u) history text u) (IsLiveReport bytes) a.status a.history a.text.items (λ words report. record { update = u; stands_for = is; is = report }) h
 live_answers bytes u (Err (Refused line)) is h = inr (record { update = u; stands_for = is; is = h })
 live_answers bytes u (Err NoMemory) is h = tt

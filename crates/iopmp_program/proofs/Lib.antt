@@ -2,7 +2,7 @@ pub mod UnitLines
 pub mod PlayedSections
 pub mod NoCommands
 pub mod UpdateRefusals
-pub mod LiveScripts
+pub mod ScriptsBeside
 pub mod CommandAnswers
 pub mod Accepted
 pub mod Completeness

@@ -1,5 +1,5 @@
 -- What is printed is read as the script, or the lane, that it was printed from.
-use Rattle.std.proofs.Common.{◌≡◌, ℕ, ◌≤◌, List, [], ◌∷◌, ◌++◌, length, map, filter, sum_by, None, Ok, refl, ap, ◌∙◌, arith}
+use Rattle.std.proofs.Common.{◌≡◌, ℕ, ◌≤◌, List, [], ◌∷◌, ◌++◌, length, map, filter, sum_by, None, Ok, refl, ap, subst, ◌∙◌, arith}
 use Rattle.std.specs.Prelude.{codes}
 use Rattle.std.specs.List.{AllByRecursion, range_with_len}
 use Rattle.std.proofs.lemmas.List.FromFn.{length-range_with_len}
@@ -27,8 +27,9 @@ use Rattle.iopmp_program.specs.GeneratedScripts.{boot_writes, generated_script}
 use Rattle.iopmp_program.specs.GenCommand.{generated_text}
 use Rattle.iopmp_program.specs.UpdateInputs.{UpdateOf, IsReadable}
 use Rattle.iopmp_program.specs.PlanCommand.{plan_section, old_script, Plans}
+use Rattle.iopmp_program.specs.PlansBeside.{IsPlayablePlan}
 use Rattle.iopmp_program.proofs.GeneratedSound.{each_lane, generated_told, formed, few}
-use Rattle.iopmp_program.proofs.LiveScripts as live
+use Rattle.iopmp_program.proofs.ScriptsBeside as beside
 
 -- ---- writes
 
@@ -121,7 +122,7 @@ plan_events old new polls entries few =
 plan_readable : (u : UpdateOf) (section : SectionOf) → IsReadable u → Plans u section → IsReadableScript (with_lane (old_script u) (plan_section u))
 unfolding image_of
 plan_readable u section good p = record {
-  formed = live.formed u section [] good p (record { few = omega arith; valid = tt; units_there = tt; write_nothing = tt });
+  formed = beside.formed u (plan_section u) [] good (subst (IsPlayablePlan u) p.is (beside.plan_may u section p)) (record { few = omega arith; valid = tt; units_there = tt; write_nothing = tt });
   few =
       let entries = good.new.shape.valid.entries in
       let plan = plan_events (image_of u.old) (image_of u.new) u.polls (omega arith) (good.polls.few) in

@@ -11,6 +11,7 @@ pub mod CompileCommand
 pub mod PlanLines
 pub mod UpdateInputs
 pub mod PlanCommand
+pub mod PlansBeside
 pub mod LiveCommand
 pub mod UpdateScripts
 pub mod PlayedSections

@@ -1,0 +1,101 @@
+-- The script of a plan beside the lanes of its update, and why an update has none.
+use Rattle.std.proofs.Common.{◌≡◌, ℕ, List, [], ◌∷◌, ◌++◌, map, Ok, Err, Result, None, Some, inl, inr, refl, sym, ◌∙◌, subst, arith}
+use Rattle.std.specs.String.{string_bytes}
+use Rattle.std.specs.List.{AllByRecursion}
+use Rattle.event_words.specs.Sections.{SectionOf, NamesUnits}
+use Rattle.script_reader.specs.declared.script.ScriptError.{ScriptError}
+use Rattle.script_reader.specs.declared.script.ScriptError.TheVariants.{BadLine, TooManyEvents}
+use Rattle.script_reader.specs.declared.script.ScriptError.TheVariants as refusals
+use Rattle.script_reader.specs.Answers.{Reads}
+use Rattle.script_reader.specs.Scripts.{ScriptOf, Bad, IsWellFormedScript}
+use Rattle.script_reader.specs.LiveLanes.{lanes_at, AreLiveLanes}
+use Rattle.policy_compiler.specs.Images.{ImageOf, image_of}
+use Rattle.policy_compiler.proofs.ImageSections.{image_is_valid, image_names_unit_0}
+use Rattle.update_planner.specs.Plans.{rewrite, rewrites, plan_commands}
+use Rattle.iopmp_program.specs.declared.answer.NoAnswer.{NoAnswer}
+use Rattle.iopmp_program.specs.declared.answer.NoAnswer.TheVariants.{Refused, NoMemory}
+use Rattle.iopmp_program.specs.declared.answer.Answer.{Answer}
+use Rattle.iopmp_program.specs.AnswerForms.{HasLine, ReportOf}
+use Rattle.iopmp_program.specs.ReportedRuns.{IsRun}
+use Rattle.iopmp_program.specs.FaultLines.{refusal_line}
+use Rattle.iopmp_program.specs.UpdateInputs.{UpdateOf, IsReadable}
+use Rattle.iopmp_program.specs.PlanCommand.{Plans}
+use Rattle.iopmp_program.specs.PlansBeside.{script_beside, IsPlayablePlan, IsRunBeside, NeedsMoreEvents}
+use Rattle.iopmp_program.specs.UpdateScripts.{IsLanesOr, IsAffordable, IsAffordableOr, IsScriptOfUpdate, IsScriptOfUpdateOr, IsPlayedOr}
+use Rattle.iopmp_program.proofs.CommandAnswers.{report_as}
+
+-- ---- the script is well-formed
+
+appended : {A : Type 0} (P : A → Type 0) (xs ys : List A) → AllByRecursion P xs → AllByRecursion P ys → AllByRecursion P (xs ++ ys)
+appended P [] ys h k = k
+appended P (x ∷ xs) ys h k = (h.0, appended P xs ys h.1 k)
+
+rewrites_on_0 : (new : ImageOf) (indices : List ℕ) → AllByRecursion (NamesUnits 1) (map (rewrite new) indices)
+rewrites_on_0 new [] = tt
+rewrites_on_0 new (i ∷ is) = (omega arith, rewrites_on_0 new is)
+
+plan_on_0 : (old new : ImageOf) (polls : ℕ) → AllByRecursion (NamesUnits 1) (plan_commands old new polls)
+unfolding plan_commands rewrites
+plan_on_0 old new polls = (omega arith, (omega arith, appended (NamesUnits 1) (rewrites old new) _ (rewrites_on_0 new _) (omega arith, tt)))
+
+-- the plan may be played
+pub plan_may : (u : UpdateOf) (plan : SectionOf) → Plans u plan → IsPlayablePlan u plan
+plan_may u plan p = record {
+  plans = p.plans;
+  old_fits = p.old_fits;
+  valid = p.valid;
+  units = subst (λ s. AllByRecursion (NamesUnits 1) s.commands) (sym p.is) (plan_on_0 (image_of u.old) (image_of u.new) u.polls);
+}
+
+pub formed : (u : UpdateOf) (plan : SectionOf) (lanes : List SectionOf) → IsReadable u → IsPlayablePlan u plan → AreLiveLanes lanes → IsWellFormedScript (script_beside plan u lanes)
+formed u plan lanes good p lane = record {
+  some_units = omega arith;
+  few_units = omega arith;
+  shapes = (good.old.shape.valid, tt);
+  few_lanes = let few = lane.few in omega arith;
+  boot = image_is_valid u.old good.old p.old_fits;
+  boot_units = image_names_unit_0 u.old;
+  lanes = (p.valid, lane.valid);
+  lanes_units = (p.units, lane.units_there);
+}
+
+-- ---- the answers of the parts
+
+pub lanes_refused : (u : UpdateOf) (plan : SectionOf) (e : NoAnswer) → IsPlayablePlan u plan → IsLanesOr u (Err e) → IsScriptOfUpdateOr plan u (Err e)
+lanes_refused u plan (Refused line) p h = inl (record { plans = p.plans; lanes = h })
+lanes_refused u plan NoMemory p h = tt
+
+pub script_given : (u : UpdateOf) (plan : SectionOf) (lanes : List SectionOf) (script : ScriptOf) (r : Result ScriptOf NoAnswer) → IsPlayablePlan u plan → lanes_at u.first_line u.lanes ≡ Ok lanes → AreLiveLanes lanes
+    → script ≡ script_beside plan u lanes → IsAffordableOr script r → IsScriptOfUpdateOr plan u r
+script_given u plan lanes script (Ok given) p l good is a = by (subst (λ s. IsAffordable s given) is a)
+  where
+    by : IsAffordable (script_beside plan u lanes) given → IsScriptOfUpdate plan u given
+    by b = record { lanes = lanes; lanes_are = l; good = good; is = b.is; few = b.few }
+script_given u plan lanes script (Err (Refused line)) p l good is a =
+    inr (record { lanes = lanes; has = record { plans = p.plans; lanes_are = l }; needs = subst (λ s. NeedsMoreEvents s (string_bytes line)) is a })
+script_given u plan lanes script (Err NoMemory) p l good is a = tt
+
+-- ---- the script is played
+
+run_beside : (u : UpdateOf) (plan : SectionOf) (script : ScriptOf) (history text : List ℕ) → IsPlayablePlan u plan → IsScriptOfUpdate plan u script → IsRun script history text → IsRunBeside plan u history text
+run_beside u plan script history text p l run =
+    record { lanes = l.lanes; has = record { plans = p.plans; lanes_are = l.lanes_are }; good = l.good; few = l.few; run = subst (λ s. IsRun s history text) l.is run }
+
+pub script_played : (u : UpdateOf) (plan : SectionOf) (script : ScriptOf) (a : Answer) → IsPlayablePlan u plan → IsScriptOfUpdate plan u script → ReportOf (IsRun script) a.status a.history a.text.items → IsPlayedOr plan u (Ok a)
+script_played u plan script a p l h =
+    report_as (IsRun script) (IsRunBeside plan u) a.status a.history a.text.items (λ words run. run_beside u plan script words a.text.items p l run) h
+
+pub script_refused : (u : UpdateOf) (plan : SectionOf) (e : NoAnswer) → IsScriptOfUpdateOr plan u (Err e) → IsPlayedOr plan u (Err e)
+script_refused u plan (Refused line) h = h
+script_refused u plan NoMemory h = tt
+
+-- ---- lanes
+
+lane_line : (u : UpdateOf) (error : ScriptError) (e : NoAnswer) (read : Result (List SectionOf) Bad) → lanes_at u.first_line u.lanes ≡ read → Reads (Err error) read → HasLine e (refusal_line error) → IsLanesOr u (Err e)
+lane_line u (BadLine line code) (Refused text) read is h named = record { bad = record { line = line; code = code }; fault = is ∙ h; named = named }
+lane_line u (TooManyEvents need have) (Refused text) read is h named = absurd h
+lane_line u refusals.NoMemory (Refused text) read is h named = absurd (let n : None ≡ Some (string_bytes text) = named in cc)
+lane_line u error NoMemory read is h named = tt
+
+pub lanes_or : (u : UpdateOf) (text : List ℕ) (error : ScriptError) (e : NoAnswer) → text ≡ u.lanes → Reads (Err error) (lanes_at u.first_line text) → HasLine e (refusal_line error) → IsLanesOr u (Err e)
+lanes_or u text error e same h named = lane_line u error e _ refl (subst (λ t. Reads (Err error) (lanes_at u.first_line t)) same h) named
