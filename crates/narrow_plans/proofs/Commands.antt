@@ -19,7 +19,7 @@ use Rattle.update_planner.proofs.Images.{valid_tail}
 use Rattle.narrow_plans.specs.BetweenStates.{table_write, table_writes, between_states}
 use Rattle.narrow_plans.specs.Unaffected.{is_unaffected, is_affected, affected}
 use Rattle.narrow_plans.specs.NarrowPlans.{stall_command, narrow_commands}
-use Rattle.narrow_plans.specs.Seen.{changes_view, stalls}
+use Rattle.narrow_plans.specs.Stalls.{changes_view, stalls}
 use Rattle.narrow_plans.proofs.Walks.{range_more}
 
 -- ---- one requester more

@@ -155,38 +155,97 @@ event_words [] h = tt
 event_words (e ∷ es) h = (word_of-is_word e h.0, event_words es h.1)
 
 all_valid : AllByRecursion IsValidEvent updated
-all_valid =
-    (valid_write 0 4 0 (omega arith) (omega arith) (omega arith),
-    (valid_write 0 512 1 (omega arith) (omega arith) (omega arith),
-    (valid_write 0 513 2 (omega arith) (omega arith) (omega arith),
-    (valid_write 0 1024 2 (omega arith) (omega arith) (omega arith),
-    (valid_write 0 1032 4 (omega arith) (omega arith) (omega arith),
-    (valid_write 0 2048 0x200001ff (omega arith) (omega arith) (omega arith),
-    (valid_write 0 2049 0 (omega arith) (omega arith) (omega arith),
-    (valid_write 0 2050 0x19 (omega arith) (omega arith) (omega arith),
-    (valid_write 0 2052 0x240001ff (omega arith) (omega arith) (omega arith),
-    (valid_write 0 2053 0 (omega arith) (omega arith) (omega arith),
-    (valid_write 0 2054 0x1b (omega arith) (omega arith) (omega arith),
-    (valid_write 0 2 1 (omega arith) (omega arith) (omega arith),
-    (valid_write 1 14 0x40000000 (omega arith) (omega arith) (omega arith),
-    ((head 0 2 (omega arith) (omega arith), valid_own, refl),
-    ((head 0 1 (omega arith) (omega arith), omega arith),
-    ((head 0 3 (omega arith) (omega arith), valid_changed, refl),
-    (valid_judgement 2 13 (omega arith) (omega arith),
-    (valid_write 1 4 0 (omega arith) (omega arith) (omega arith),
-    (valid_write 1 512 1 (omega arith) (omega arith) (omega arith),
-    (valid_write 1 513 2 (omega arith) (omega arith) (omega arith),
-    (valid_write 1 1024 2 (omega arith) (omega arith) (omega arith),
-    (valid_write 1 1032 4 (omega arith) (omega arith) (omega arith),
-    (valid_write 1 2048 0x200001ff (omega arith) (omega arith) (omega arith),
-    (valid_write 1 2049 0 (omega arith) (omega arith) (omega arith),
-    (valid_write 1 2050 0x1b (omega arith) (omega arith) (omega arith),
-    (valid_write 1 2052 0x240001ff (omega arith) (omega arith) (omega arith),
-    (valid_write 1 2053 0 (omega arith) (omega arith) (omega arith),
-    (valid_write 1 2054 0x1b (omega arith) (omega arith) (omega arith),
-    (valid_write 1 12 0 (omega arith) (omega arith) (omega arith),
-    (valid_judgement 3 15 (omega arith) (omega arith),
-    tt))))))))))))))))))))))))))))))
+all_valid = (
+  valid_write 0 4 0 (omega arith) (omega arith) (omega arith),
+  (
+    valid_write 0 512 1 (omega arith) (omega arith) (omega arith),
+    (
+      valid_write 0 513 2 (omega arith) (omega arith) (omega arith),
+      (
+        valid_write 0 1024 2 (omega arith) (omega arith) (omega arith),
+        (
+          valid_write 0 1032 4 (omega arith) (omega arith) (omega arith),
+          (
+            valid_write 0 2048 0x200001ff (omega arith) (omega arith) (omega arith),
+            (
+              valid_write 0 2049 0 (omega arith) (omega arith) (omega arith),
+              (
+                valid_write 0 2050 0x19 (omega arith) (omega arith) (omega arith),
+                (
+                  valid_write 0 2052 0x240001ff (omega arith) (omega arith) (omega arith),
+                  (
+                    valid_write 0 2053 0 (omega arith) (omega arith) (omega arith),
+                    (
+                      valid_write 0 2054 0x1b (omega arith) (omega arith) (omega arith),
+                      (
+                        valid_write 0 2 1 (omega arith) (omega arith) (omega arith),
+                        (
+                          valid_write 1 14 0x40000000 (omega arith) (omega arith) (omega arith),
+                          (
+                            (head 0 2 (omega arith) (omega arith), valid_own, refl),
+                            (
+                              (head 0 1 (omega arith) (omega arith), omega arith),
+                              (
+                                (head 0 3 (omega arith) (omega arith), valid_changed, refl),
+                                (
+                                  valid_judgement 2 13 (omega arith) (omega arith),
+                                  (
+                                    valid_write 1 4 0 (omega arith) (omega arith) (omega arith),
+                                    (
+                                      valid_write 1 512 1 (omega arith) (omega arith) (omega arith),
+                                      (
+                                        valid_write 1 513 2 (omega arith) (omega arith) (omega arith),
+                                        (
+                                          valid_write 1 1024 2 (omega arith) (omega arith) (omega arith),
+                                          (
+                                            valid_write 1 1032 4 (omega arith) (omega arith) (omega arith),
+                                            (
+                                              valid_write 1 2048 0x200001ff (omega arith) (omega arith) (omega arith),
+                                              (
+                                                valid_write 1 2049 0 (omega arith) (omega arith) (omega arith),
+                                                (
+                                                  valid_write 1 2050 0x1b (omega arith) (omega arith) (omega arith),
+                                                  (
+                                                    valid_write 1 2052 0x240001ff (omega arith) (omega arith) (omega arith),
+                                                    (
+                                                      valid_write 1 2053 0 (omega arith) (omega arith) (omega arith),
+                                                      (
+                                                        valid_write 1 2054 0x1b (omega arith) (omega arith) (omega arith),
+                                                        (
+                                                          valid_write 1 12 0 (omega arith) (omega arith) (omega arith),
+                                                          (
+                                                            valid_judgement 3 15 (omega arith) (omega arith),
+                                                            tt,
+                                                          ),
+                                                        ),
+                                                      ),
+                                                    ),
+                                                  ),
+                                                ),
+                                              ),
+                                            ),
+                                          ),
+                                        ),
+                                      ),
+                                    ),
+                                  ),
+                                ),
+                              ),
+                            ),
+                          ),
+                        ),
+                      ),
+                    ),
+                  ),
+                ),
+              ),
+            ),
+          ),
+        ),
+      ),
+    ),
+  ),
+)
 
 order : BootComesFirst 3 words
 unfolding bearer

@@ -9,7 +9,7 @@ ghost use Rattle.update_planner.specs.Refusals.{plan_refusal};
 ghost use Rattle.update_planner.specs.Gives.{IsPlan, Plans, SaysShapesDiffer};
 ghost use Rattle.update_planner.specs.Values.{WritesUnit};
 ghost use Rattle.narrow_plans.specs.NarrowPlans.{stall_command, narrow_commands};
-ghost use Rattle.narrow_plans.specs.Seen.{stalls};
+ghost use Rattle.narrow_plans.specs.Stalls.{stalls};
 
 use crate::states::keeps_view;
 use event_words::{Command, Register, Section};

@@ -4,7 +4,8 @@ ghost use Rattle.event_words.specs.Valid.{IsValidShape};
 ghost use Rattle.policy_compiler.specs.Laws.{guarded_write, registers_after};
 ghost use Rattle.narrow_plans.specs.Views.{view_of};
 ghost use Rattle.narrow_plans.specs.Unaffected.{has_view};
-ghost use Rattle.narrow_plans.specs.Seen.{is_own, IsEntryPart, LeavesView, changes_view};
+ghost use Rattle.narrow_plans.specs.Seen.{is_own, IsEntryPart, LeavesView};
+ghost use Rattle.narrow_plans.specs.Stalls.{changes_view};
 
 use crate::views::{EntryView, same_view, view_of};
 use event_words::Register;

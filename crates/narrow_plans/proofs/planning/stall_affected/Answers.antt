@@ -1,7 +1,7 @@
 use Rattle.std.proofs.Common.{[], ◌∷◌, ◌++◌, not, ap, sym, ◌∙◌}
 use Rattle.std.proofs.lemmas.List.{append_assoc}
 use Rattle.narrow_plans.specs.NarrowPlans.{stall_command}
-use Rattle.narrow_plans.specs.Seen.{stalls}
+use Rattle.narrow_plans.specs.Stalls.{stalls}
 use Rattle.narrow_plans.proofs.Commands.{one_stalled, none_stalled}
 use Rattle.narrow_plans.proofs.planning.stall_affected.Goals.{then-not-same+in_ok-stall, else-not-same}
 use Rattle.narrow_plans.proofs.planning.stall_affected.Goals as goal

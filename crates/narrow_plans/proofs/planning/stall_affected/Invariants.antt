@@ -1,6 +1,6 @@
 -- the stalls of the requesters so far
 use Rattle.std.proofs.Common.{◌≡◌, ◌++◌}
-use Rattle.narrow_plans.specs.Seen.{stalls}
+use Rattle.narrow_plans.specs.Stalls.{stalls}
 use Rattle.narrow_plans.proofs.planning.stall_affected.Given as goal
 
 abbrev pub invariant-loop-rrid : goal.invariant-loop-rrid
