@@ -77,14 +77,14 @@ no_update_planned bytes (Refused line) h = inl h
 no_update_planned bytes NoMemory h = tt
 
 pub no_plan_refused : (bytes : List ℕ) (u : UpdateOf) (e : NoAnswer) → IsUpdate false bytes u
-    → (let r : Result (Vec ℕ Global) NoAnswer = Err e in GivesOr (λ text. IsPlanText u text.items) (HasNoPlan u) r) → Answers Plan bytes (Err e)
+    → (let r : Result (Vec ℕ Global) NoAnswer = Err e in GivesOr (λ text. IsPlanText (plan_section u) u text.items) (HasNoPlan u) r) → Answers Plan bytes (Err e)
 no_plan_refused bytes u (Refused line) is h = inr (record { update = u; stands_for = is; is = h })
 no_plan_refused bytes u NoMemory is h = tt
 
 -- ---- live
 
 -- a run of the plan beside the lanes is a live history
-live_history : (u : UpdateOf) (plan : SectionOf) (history text : List ℕ) → IsReadable u → Plans u plan → (run : IsRunBeside plan u history text) → IsLiveHistory u.old u.new u.polls run.lanes history
+live_history : (u : UpdateOf) (plan : SectionOf) (history text : List ℕ) → IsReadable u → Plans (plan_section u) u plan → (run : IsRunBeside plan u history text) → IsLiveHistory u.old u.new u.polls run.lanes history
 live_history u plan history text good p run =
     let r : IsRun (script_beside (plan_section u) u run.lanes) history text = subst (λ s. IsRun (script_beside s u run.lanes) history text) p.is run.run in
     record {
@@ -115,12 +115,12 @@ beside_answers Keeps u plan wanted (Ok a) is keeps h =
 beside_answers Keeps u plan wanted (Err (Refused line)) is keeps h = subst (λ s. IsUpdateLine s u (string_bytes line)) is (inr h)
 beside_answers Keeps u plan wanted (Err NoMemory) is keeps h = tt
 
-pub update_played : LawLive → (u : UpdateOf) (plan : SectionOf) (r : Result Answer NoAnswer) → IsReadable u → Plans u plan → IsPlayedOr plan u r → UpdateAnswers KeepsPolicies (plan_section u) u r
+pub update_played : LawLive → (u : UpdateOf) (plan : SectionOf) (r : Result Answer NoAnswer) → IsReadable u → Plans (plan_section u) u plan → IsPlayedOr plan u r → UpdateAnswers KeepsPolicies (plan_section u) u r
 update_played law u plan r good p h =
     beside_answers KeepsPolicies u plan (plan_section u) r p.is (λ history text run. law u.old u.new u.polls run.lanes history (live_history u plan history text good p run)) h
 
 pub no_plan_played : (Keeps : PolicyOf → PolicyOf → History → Type 0) (u : UpdateOf) (plan : SectionOf) (e : NoAnswer)
-    → (let r : Result SectionOf NoAnswer = Err e in GivesOr (Plans u) (HasNoPlan u) r) → UpdateAnswers Keeps plan u (Err e)
+    → (let r : Result SectionOf NoAnswer = Err e in GivesOr (Plans plan u) (HasNoPlan u) r) → UpdateAnswers Keeps plan u (Err e)
 no_plan_played Keeps u plan (Refused line) h = inl h
 no_plan_played Keeps u plan NoMemory h = tt
 

@@ -119,19 +119,26 @@ plan_events old new polls entries few =
       rewritten_few old new,
     )
 
-plan_readable : (u : UpdateOf) (section : SectionOf) → IsReadable u → Plans u section → IsReadableScript (with_lane (old_script u) (plan_section u))
+readable : (u : UpdateOf) (plan : SectionOf) → IsReadable u → IsPlayablePlan u plan → AllByRecursion IsToldWhole plan.commands → events_of plan ≤ 65536 → IsReadableScript (with_lane (old_script u) plan)
 unfolding image_of
-plan_readable u section good p = record {
-  formed = beside.formed u (plan_section u) [] good (subst (IsPlayablePlan u) p.is (beside.plan_may u section p)) (record { few = omega arith; valid = tt; units_there = tt; write_nothing = tt });
+readable u plan good p told few = record {
+  formed = beside.formed u plan [] good p (record { few = omega arith; valid = tt; units_there = tt; write_nothing = tt });
   few =
-      let entries = good.new.shape.valid.entries in
-      let plan = plan_events (image_of u.old) (image_of u.new) u.polls (omega arith) (good.polls.few) in
       let boot = image_events u.old good.old p.old_fits in
-      omega (arith, plan, boot);
-  whole = record { boot = writes_told (image_of u.old).writes; lanes = (plan_told (image_of u.old) (image_of u.new) u.polls, tt) };
+      omega (arith, few, boot);
+  whole = record { boot = writes_told (image_of u.old).writes; lanes = (told, tt) };
 }
 
-pub plan_read_back : (u : UpdateOf) (section : SectionOf) (text : List ℕ) → IsReadable u → Plans u section → text ≡ lane_text 1 (plan_section u) ++ codes "end\n"
+-- so of any plan that is told whole and has few events
+pub lane_read_back : (u : UpdateOf) (plan : SectionOf) (text : List ℕ) → IsReadable u → IsPlayablePlan u plan → AllByRecursion IsToldWhole plan.commands → events_of plan ≤ 65536 → text ≡ lane_text 1 plan ++ codes "end\n"
+    → reading_of (text_before_end (old_script u) ++ text) ≡ Ok (with_lane (old_script u) plan)
+lane_read_back u plan text good p told few printed =
+    ap (λ t. reading_of (text_before_end (old_script u) ++ t)) printed ∙ lane_reads_back 1 plan (old_script u) refl (readable u plan good p told few)
+
+pub plan_read_back : (u : UpdateOf) (section : SectionOf) (text : List ℕ) → IsReadable u → Plans (plan_section u) u section → text ≡ lane_text 1 (plan_section u) ++ codes "end\n"
     → reading_of (text_before_end (old_script u) ++ text) ≡ Ok (with_lane (old_script u) (plan_section u))
+unfolding image_of
 plan_read_back u section text good p printed =
-    ap (λ t. reading_of (text_before_end (old_script u) ++ t)) printed ∙ lane_reads_back 1 (plan_section u) (old_script u) refl (plan_readable u section good p)
+    let entries = good.new.shape.valid.entries in
+    lane_read_back u (plan_section u) text good (subst (IsPlayablePlan u) p.is (beside.plan_may u section p)) (plan_told (image_of u.old) (image_of u.new) u.polls)
+    (plan_events (image_of u.old) (image_of u.new) u.polls (omega arith) (good.polls.few)) printed

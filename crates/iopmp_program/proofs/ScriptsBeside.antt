@@ -19,7 +19,7 @@ use Rattle.iopmp_program.specs.AnswerForms.{HasLine, ReportOf}
 use Rattle.iopmp_program.specs.ReportedRuns.{IsRun}
 use Rattle.iopmp_program.specs.FaultLines.{refusal_line}
 use Rattle.iopmp_program.specs.UpdateInputs.{UpdateOf, IsReadable}
-use Rattle.iopmp_program.specs.PlanCommand.{Plans}
+use Rattle.iopmp_program.specs.PlanCommand.{plan_section, Plans}
 use Rattle.iopmp_program.specs.PlansBeside.{script_beside, IsPlayablePlan, IsRunBeside, NeedsMoreEvents}
 use Rattle.iopmp_program.specs.UpdateScripts.{IsLanesOr, IsAffordable, IsAffordableOr, IsScriptOfUpdate, IsScriptOfUpdateOr, IsPlayedOr}
 use Rattle.iopmp_program.proofs.CommandAnswers.{report_as}
@@ -39,7 +39,7 @@ unfolding plan_commands rewrites
 plan_on_0 old new polls = (omega arith, (omega arith, appended (NamesUnits 1) (rewrites old new) _ (rewrites_on_0 new _) (omega arith, tt)))
 
 -- the plan may be played
-pub plan_may : (u : UpdateOf) (plan : SectionOf) → Plans u plan → IsPlayablePlan u plan
+pub plan_may : (u : UpdateOf) (plan : SectionOf) → Plans (plan_section u) u plan → IsPlayablePlan u plan
 plan_may u plan p = record {
   plans = p.plans;
   old_fits = p.old_fits;

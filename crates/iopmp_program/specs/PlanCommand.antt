@@ -23,17 +23,17 @@ plan_section u = section_with (plan_commands (image_of u.old) (image_of u.new) u
 abbrev pub old_script : UpdateOf → ScriptOf
 old_script u = image_script (image_of u.old)
 
--- There is a plan from one policy to the other, and the text is that plan as lane 1. In place of the last line of
+-- There is a plan from one policy to the other, and the text is this one as lane 1. In place of the last line of
 -- the old image's script it is read as that script's lane.
-pub record IsPlanText (u : UpdateOf) (text : List ℕ) : Type 0 where
+pub record IsPlanText (plan : SectionOf) (u : UpdateOf) (text : List ℕ) : Type 0 where
   pub plans : plan_refusal u.old u.new ≡ None
-  pub printed : text ≡ lane_text 1 (plan_section u) ++ codes "end\n"
-  pub read_back : reading_of (text_before_end (old_script u) ++ text) ≡ Ok (with_lane (old_script u) (plan_section u))
+  pub printed : text ≡ lane_text 1 plan ++ codes "end\n"
+  pub read_back : reading_of (text_before_end (old_script u) ++ text) ≡ Ok (with_lane (old_script u) plan)
 
--- there is one, and this is its section; both policies fit one unit
-pub record Plans (u : UpdateOf) (section : SectionOf) : Type 0 where
+-- there is one, and a section is the plan that is wanted; both policies fit one unit
+pub record Plans (wanted : SectionOf) (u : UpdateOf) (section : SectionOf) : Type 0 where
   pub plans : plan_refusal u.old u.new ≡ None
-  pub is : section ≡ plan_section u
+  pub is : section ≡ wanted
   pub valid : IsValidSection section
   pub shapes : u.old.shape ≡ u.new.shape
   pub old_fits : need_refusal u.old ≡ None
@@ -42,7 +42,7 @@ pub record Plans (u : UpdateOf) (section : SectionOf) : Type 0 where
 -- ---- of an input
 
 abbrev pub IsPlanned : List ℕ → List ℕ → Type 0
-IsPlanned bytes text = OfUpdate false (λ u. IsPlanText u text) bytes
+IsPlanned bytes text = OfUpdate false (λ u. IsPlanText (plan_section u) u text) bytes
 
 abbrev pub IsNotPlanned : List ℕ → List ℕ → Type 0
 IsNotPlanned bytes line = IsNoUpdate false bytes line ⊎ OfUpdate false (λ u. HasNoPlan u line) bytes

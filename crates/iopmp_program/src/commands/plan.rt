@@ -1,13 +1,16 @@
 // The command `plan`: the plan from one policy to another is printed as a lane.
 ghost use Rattle.std.specs.Prelude.{◌≡◌, ◌++◌, ◌≤◌, length, IfOk, codes};
 ghost use Rattle.iopmp_program.specs.UpdateInputs.{IsReadable, HasNoPlan};
-ghost use Rattle.iopmp_program.specs.PlanCommand.{IsPlanText};
+ghost use Rattle.script_reader.specs.Printed.{lane_text};
+ghost use Rattle.iopmp_program.specs.PlanCommand.{plan_section, IsPlanText};
 ghost use Rattle.iopmp_program.specs.AnswerForms.{GivesOr};
 ghost use Rattle.iopmp_program.specs.CommandTables.{Answers};
 ghost use Rattle.iopmp_program.specs.declared.subcommand.Subcommand.TheVariants as commands;
 
 use crate::answer::{Answer, NoAnswer, text_answer};
 use crate::inputs::update::{Update, planned, two_policies};
+use crate::memory::NoMemory;
+use event_words::Section;
 use script_reader::print_lane;
 use std::alloc::{AllocError, Global};
 
@@ -19,20 +22,28 @@ fn with_end(text: Vec<u8>) -> Result<Vec<u8>, AllocError>
     Ok(text)
 }
 
+/// A plan printed as lane 1.
+pub fn lane_one(alloc: Global, plan: &Section) -> Result<Vec<u8>, NoMemory>
+    ensures { IfOk result (λ text. text.items ≡ lane_text 1 plan.now ++ codes "end\n") }
+{
+    let Ok(lane) = print_lane(alloc, 1, plan) else {
+        return Err(NoMemory);
+    };
+    Ok(with_end(lane)?)
+}
+
 /// The printed plan of an update.
 #[tactic(auto, using(crate::proofs::ReadBack::plan_read_back))]
 fn plan_text(alloc: Global, update: &Update) -> Result<Vec<u8>, NoAnswer>
     requires { IsReadable update.now }
-    ensures { GivesOr (λ text. IsPlanText update.now text.items) (HasNoPlan update.now) result }
+    ensures { GivesOr (λ text. IsPlanText (plan_section update.now) update.now text.items)
+        (HasNoPlan update.now) result }
 {
     let section = match planned(alloc, update) {
         Ok(section) => section,
         Err(refused) => return Err(refused),
     };
-    let Ok(lane) = print_lane(alloc, 1, &section) else {
-        return Err(NoAnswer::NoMemory);
-    };
-    match with_end(lane) {
+    match lane_one(alloc, &section) {
         Ok(text) => Ok(text),
         Err(_) => Err(NoAnswer::NoMemory),
     }

@@ -4,7 +4,7 @@ ghost use Rattle.std.specs.String.{string_bytes};
 ghost use Rattle.script_reader.specs.UpdateTexts.{update_text_at};
 ghost use Rattle.iopmp_program.specs.PlanLines as lines;
 ghost use Rattle.iopmp_program.specs.UpdateInputs.{IsUpdate, IsReadable, IsNoUpdate, IsMisheaded, HasNoPlan};
-ghost use Rattle.iopmp_program.specs.PlanCommand.{Plans};
+ghost use Rattle.iopmp_program.specs.PlanCommand.{plan_section, Plans};
 ghost use Rattle.iopmp_program.specs.AnswerForms.{HasLine, GivesOr};
 
 use super::policies::policy;
@@ -117,7 +117,7 @@ fn no_plan(alloc: Global, error: &PlanError) -> NoAnswer
 /// The plan of an update, as a section of commands.
 pub fn planned(alloc: Global, update: &Update) -> Result<Section, NoAnswer>
     requires { IsReadable update.now }
-    ensures { GivesOr (Plans update.now) (HasNoPlan update.now) result }
+    ensures { GivesOr (Plans (plan_section update.now) update.now) (HasNoPlan update.now) result }
 {
     match plan(alloc, &update.old, &update.new, update.polls) {
         Ok(Plan { section }) => Ok(section),
