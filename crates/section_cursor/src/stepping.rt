@@ -125,23 +125,24 @@ fn after_stage_judgements(caller: u8, chain: Chain, logged: &LoggedEvent) -> Ahe
 
 /// What comes after the awaited event, which came as this one and isn't tried again. A submission adds
 /// its slot, for which there must be room.
+#[inline(never)]
 pub(crate) fn ahead_after(
     caller: u8,
     slots: &mut Vec<Option<OpenSlot>>,
-    part: Part,
+    part: &Part,
     logged: &LoggedEvent,
 ) -> Ahead
-    requires last { is_tried_again part logged.now.reply ≡ false }
-    requires room { vec_len slots.old + part_submits part ≤ vec_capacity slots.old }
+    requires last { is_tried_again part.now logged.now.reply ≡ false }
+    requires room { vec_len slots.old + part_submits part.now ≤ vec_capacity slots.old }
     ensures rest { (event : Events) (cs : List Command) (xs : List Logged) →
-        end_of_rest caller cs slots.new.items result xs ≡ end_after caller cs slots.old.items event part logged.now xs }
-    ensures tries { PartHasTries part → AheadHasTries result }
-    ensures count { vec_len slots.new + submits result ≡ vec_len slots.old + part_submits part }
+        end_of_rest caller cs slots.new.items result xs ≡ end_after caller cs slots.old.items event part.now logged.now xs }
+    ensures tries { PartHasTries part.now → AheadHasTries result }
+    ensures count { vec_len slots.new + submits result ≡ vec_len slots.old + part_submits part.now }
     ensures capacity { vec_capacity slots.new ≡ vec_capacity slots.old }
-    ensures valid { caller < 32 → logged.now.place < 2 ^ 24 → IsValidPart part → IsValidAhead caller result }
-    ensures slots { logged.now.place < 2 ^ 24 → IsValidPart part → AllByRecursion IsValidSlot slots.old.items → AllByRecursion IsValidSlot slots.new.items }
+    ensures valid { caller < 32 → logged.now.place < 2 ^ 24 → IsValidPart part.now → IsValidAhead caller result }
+    ensures slots { logged.now.place < 2 ^ 24 → IsValidPart part.now → AllByRecursion IsValidSlot slots.old.items → AllByRecursion IsValidSlot slots.new.items }
 {
-    match part {
+    match *part {
         Part::Alone => Ahead::Between,
         Part::Submission { unit } => {
             slots.push_reserved(opened_slot(unit, logged));
