@@ -1,6 +1,8 @@
 -- Numerals whose value stands still above the greatest number of 64 bits.
 use Rattle.std.proofs.Common.{◌≡◌, ℕ, ◌+◌, ◌*◌, ◌^◌, ◌<◌, ◌≤◌, min, List, [], ◌∷◌, None, Some, Option, Result, length, get_or, drop, refl, ap, sym, ◌∙◌, inl, inr, arith, add-one, drop-cons}
 use Rattle.std.proofs.Math.ListN.{drop_of_length-le}
+use Rattle.std.proofs.Math.Nat.{mul-le-mul_left, pow-le-pow_right}
+use Rattle.std.proofs.lemmas.Grind.{pow_more}
 use Rattle.std.proofs.lemmas.Bool.{cases_lt}
 use Rattle.std.proofs.lemmas.Bool.Decides.{nat_tests}
 use Rattle.std.specs.Option.{option_map, option_and_then}
@@ -47,6 +49,19 @@ capped_end base n bs i h small = ap (λ l. option_map capped (numeral_after base
 
 pub numeral_of_is : (base most : ℕ) (ds : List ℕ) → 1 ≤ length ds → length ds ≤ most → numeral_of base most ds ≡ numeral_after base 0 ds
 numeral_of_is base most ds low high = grind (arith, nat_tests)
+
+-- ---- up to 15 digits
+
+-- a digit more, of a base up to 16
+pub fits_more : (n base d i : ℕ) → n < 16 ^ i → base ≤ 16 → d < 16 → n * base + d < 16 ^ (i + 1)
+fits_more n base d i h b k =
+    let less : n * base ≤ n * 16 = mul-le-mul_left n b in
+    rw (pow_more 16 i) (omega (arith, less))
+
+pub fits_64 : (n base d i : ℕ) → n < 16 ^ i → base ≤ 16 → d < 16 → i < 15 → n * base + d < 2 ^ 64
+fits_64 n base d i h b k few =
+    let most : 16 ^ (i + 1) ≤ 16 ^ 15 = pow-le-pow_right {n = 16} (omega arith) {i = i + 1} {j = 15} (omega (arith, few)) in
+    omega (arith, fits_more n base d i h b k, most)
 
 -- ---- numbers of 64 bits
 

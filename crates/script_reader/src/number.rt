@@ -1,9 +1,12 @@
 // The number that a word writes.
-ghost use Rattle.std.specs.Prelude.{◌≡◌, ◌^◌, ◌≤◌, ◌<◌, ◌+◌, ◌*◌, min, Some, IfOk, IfSome};
+ghost use Rattle.std.specs.Prelude.{◌≡◌, length, ◌^◌, ◌≤◌, ◌<◌, ◌+◌, ◌*◌, min, Some, IfOk, IfSome};
 ghost use Rattle.std.specs.Option.{option_map};
-ghost use Rattle.script_reader.specs.Numbers.{digit_of, numeral_of, number_of, number_at, ranged, fitting, held};
+ghost use Rattle.script_reader.specs.Numbers.{digit_of, numeral_after, numeral_of, number_of, number_at, ranged, fitting, held};
 
 use crate::step::{NOT_A_NUMBER, OUT_OF_RANGE};
+
+/// So many digits of any base up to 16 write a number that 64 bits hold.
+const SHORT: usize = 15;
 
 #[tactic(auto, unfolding(crate::specs::Numbers::digit_of))]
 fn digit(base: u64, byte: u8) -> Option<u64>
@@ -32,6 +35,23 @@ fn with_digit(base: u64, number: Option<u64>, digit: u64) -> Option<u64>
     number?.checked_mul(base)?.checked_add(digit)
 }
 
+/// The number that digits write: none where one isn't a digit of the base. No check is made on the way,
+/// since 64 bits hold 15 digits of any base up to 16.
+#[tactic(auto, using(crate::proofs::Numerals::fits_more))]
+fn short_numeral(base: u64, digits: &[u8]) -> Option<u64>
+    requires high { base ≤ 16 }
+    requires few { length digits.now ≤ 15 }
+    ensures value { result ≡ numeral_after base 0 digits.now }
+    ensures small { IfSome result (λ n. n < 2 ^ 64) }
+{
+    let mut number = 0u64;
+    for byte in digits {
+        let digit = digit(base, *byte)?;
+        number = number * base + digit;
+    }
+    Some(number)
+}
+
 /// The number that digits write: none where they aren't 1 to `most` digits of the base, and then none where it is above
 /// the greatest of 64 bits.
 fn numeral(base: u64, most: usize, digits: &[u8]) -> Option<Option<u64>>
@@ -41,6 +61,10 @@ fn numeral(base: u64, most: usize, digits: &[u8]) -> Option<Option<u64>>
 {
     if digits.is_empty() || digits.len() > most {
         return None;
+    }
+    if digits.len() <= SHORT {
+        let number = short_numeral(base, digits)?;
+        return Some(Some(number));
     }
     let mut number = Some(0u64);
     for byte in digits {

@@ -15,7 +15,7 @@ loop-byte-preserved c = (
 
 pub returns-in_err-digit : goal.returns-in_err-digit
 returns-in_err-digit c =
-    ap (option_map held) c.from_residual.ensures
+    ap (option_map held) c.from_residual-in_err-digit.ensures
     ∙ sym (capped_stop c.args.base (held c.loop-byte.number) c.args.digits.now c.loop-byte.byte-index (omega arith) (sym c.digit.ensures.value ∙ c.in_err-digit.was))
     ∙ c.loop-byte.invariant.0
     ∙ ap (option_map capped) (sym (numeral_of_is c.args.base c.args.most c.args.digits.now (grind (arith, nat_tests)) (omega arith)))
