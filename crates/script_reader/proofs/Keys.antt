@@ -1,5 +1,5 @@
 -- Names and the numbers that stand for them.
-use Rattle.std.proofs.Common.{◌≡◌, ℕ, suc, ◌+◌, ◌-◌, ◌*◌, ◌^◌, ◌<◌, ◌≤◌, ◌&&◌, nat_le, Bool, true, false, cond, List, [], ◌∷◌, ◌++◌, None, Some, Option, length, map, drop, get_or, slice_index, is_some, unwrap_or, refl, ap, sym, subst, ◌∙◌, inl, inr, arith, length-append, length-drop}
+use Rattle.std.proofs.Common.{◌≡◌, ℕ, zero, suc, ◌+◌, ◌-◌, ◌*◌, ◌^◌, ◌<◌, ◌≤◌, ◌&&◌, nat_le, Bool, true, false, cond, List, [], ◌∷◌, ◌++◌, None, Some, Option, length, map, drop, get_or, slice_index, is_some, unwrap_or, refl, ap, sym, subst, ◌∙◌, inl, inr, arith, length-append, length-drop}
 use Rattle.std.proofs.Math.Nat.{pow-suc, pow-le-pow_right}
 use Rattle.std.proofs.lemmas.Bool.{cases_Bool, cases_lt, leb-true}
 use Rattle.std.proofs.lemmas.Bool.Decides.{nat_tests}
@@ -12,7 +12,7 @@ use Rattle.std.specs.declared.cmp.Ordering.TheVariants.{Less, Equal, Greater}
 use Rattle.std.specs.List.{list_all}
 use Rattle.std.specs.Str.{bytes_eq}
 use Rattle.std.specs.BTreeMap.{BTreeMap, get, Updates}
-use Rattle.script_reader.specs.Names.{is_letter, is_letter_or_digit, is_name, key_of, slot_of, AreSlotsOf}
+use Rattle.script_reader.specs.Names.{is_letter, is_letter_or_digit, is_name, key_of, rank_of, slot_of, AreSlotsOf}
 use Rattle.script_reader.proofs.Parts.{and_left, and_right}
 use Rattle.script_reader.proofs.Slots.{slot_more, slot_in, is_none}
 
@@ -58,6 +58,11 @@ same_key (b ∷ bs) (c ∷ cs) h k e =
     let rest : bs ≡ cs = same_key bs cs (and_right (is_letter_or_digit b) _ h) (and_right (is_letter_or_digit c) _ k) parts.0 in
     ap (λ x. x ∷ bs) parts.1 ∙ ap (λ l. c ∷ l) rest
 
+byte_small : (w : List ℕ) → list_all is_letter_or_digit w ≡ true → (k : ℕ) → get_or w k 0 < 256
+byte_small [] h k = omega arith
+byte_small (b ∷ bs) h zero = (is_byte b (and_left _ _ h)).1
+byte_small (b ∷ bs) h (suc k) = byte_small bs (and_right (is_letter_or_digit b) _ h) k
+
 -- ---- a name has at most eight letters and digits
 
 pub name_short : (w : List ℕ) → is_name w ≡ true → length w ≤ 8
@@ -83,21 +88,28 @@ other_is a b apart =
 false_not_true : (b : Bool) → b ≡ false → b ≡ true → ⊥
 false_not_true b f t = cc
 
--- numbers compare as names do
-key_test : (w q : List ℕ) → is_name w ≡ true → is_name q ≡ true → is_eq (nat_cmp (key_of w) (key_of q)) ≡ bytes_eq w q
-key_test w q h k =
+name_key : (w : List ℕ) → is_name w ≡ true → key_of w < 2 ^ 64
+name_key w h = key_small w (byte_small w (name_bytes w h)) (name_short w h)
+
+-- names of one rank are one
+same_rank : (w q : List ℕ) → is_name w ≡ true → is_name q ≡ true → rank_of w ≡ rank_of q → w ≡ q
+same_rank w q h k e = same_key w q (name_bytes w h) (name_bytes q k) (omega (arith, e, name_key w h, name_key q k))
+
+-- ranks compare as names do
+rank_test : (w q : List ℕ) → is_name w ≡ true → is_name q ≡ true → is_eq (nat_cmp (rank_of w) (rank_of q)) ≡ bytes_eq w q
+rank_test w q h k =
     elim (cases_Bool (bytes_eq w q)) [
-      | inl t ↦ equal_is (key_of w) (key_of q) (ap key_of ((bytes_eq-Decides w q).0 t)) ∙ sym t
-      | inr f ↦ other_is (key_of w) (key_of q) (λ e. false_not_true (bytes_eq w q) f ((bytes_eq-Decides w q).1 (same_key w q (name_bytes w h) (name_bytes q k) e))) ∙ sym f
+      | inl t ↦ equal_is (rank_of w) (rank_of q) (ap rank_of ((bytes_eq-Decides w q).0 t)) ∙ sym t
+      | inr f ↦ other_is (rank_of w) (rank_of q) (λ e. false_not_true (bytes_eq w q) f ((bytes_eq-Decides w q).1 (same_rank w q h k e))) ∙ sym f
     ]
 
-slots_more : (slots new : BTreeMap ℕ ℕ) (names : List (List ℕ)) (w : List ℕ) (slot key : ℕ) → AreSlotsOf slots names → is_name w ≡ true → slot_of names w ≡ None → key ≡ key_of w → slot ≡ length names
-    → Updates nat_cmp slots new key (Some slot) → (q : List ℕ) → is_name q ≡ true → get nat_cmp new (key_of q) ≡ slot_of (names ++ w ∷ []) q
-slots_more slots new names w slot key old h none same count updates q k =
-    updates.0 (key_of q)
-    ∙ ap (λ n. cond (is_eq (nat_cmp n (key_of q))) (Some slot) (get nat_cmp slots (key_of q))) same
-    ∙ ap (λ b. cond b (Some slot) (get nat_cmp slots (key_of q))) (key_test w q h k)
-    ∙ ap (λ n. cond (bytes_eq w q) (Some n) (get nat_cmp slots (key_of q))) count
+slots_more : (slots new : BTreeMap ℕ ℕ) (names : List (List ℕ)) (w : List ℕ) (slot rank : ℕ) → AreSlotsOf slots names → is_name w ≡ true → slot_of names w ≡ None → rank ≡ rank_of w → slot ≡ length names
+    → Updates nat_cmp slots new rank (Some slot) → (q : List ℕ) → is_name q ≡ true → get nat_cmp new (rank_of q) ≡ slot_of (names ++ w ∷ []) q
+slots_more slots new names w slot rank old h none same count updates q k =
+    updates.0 (rank_of q)
+    ∙ ap (λ n. cond (is_eq (nat_cmp n (rank_of q))) (Some slot) (get nat_cmp slots (rank_of q))) same
+    ∙ ap (λ b. cond b (Some slot) (get nat_cmp slots (rank_of q))) (rank_test w q h k)
+    ∙ ap (λ n. cond (bytes_eq w q) (Some n) (get nat_cmp slots (rank_of q))) count
     ∙ ap (λ o. cond (bytes_eq w q) (Some (length names)) o) (old.all q k)
     ∙ slot_more names w q none
 
@@ -110,19 +122,19 @@ last_added names w none =
     ∙ ap (λ b. cond b (Some (length names)) (slot_of names w)) ((bytes_eq-Decides w w).1 refl)
     ∙ ap Some (sym count)
 
-pub slots_added : (slots new : BTreeMap ℕ ℕ) (names : List (List ℕ)) (w : List ℕ) (slot key : ℕ) → AreSlotsOf slots names → is_name w ≡ true → is_some (slot_of names w) ≡ false → key ≡ key_of w → slot ≡ length names
-    → length names < 2 ^ 32 → Updates nat_cmp slots new key (Some slot) → AreSlotsOf new (names ++ w ∷ [])
-slots_added slots new names w slot key old h absent same count few updates =
+pub slots_added : (slots new : BTreeMap ℕ ℕ) (names : List (List ℕ)) (w : List ℕ) (slot rank : ℕ) → AreSlotsOf slots names → is_name w ≡ true → is_some (slot_of names w) ≡ false → rank ≡ rank_of w → slot ≡ length names
+    → length names < 2 ^ 32 → Updates nat_cmp slots new rank (Some slot) → AreSlotsOf new (names ++ w ∷ [])
+slots_added slots new names w slot rank old h absent same count few updates =
     let none : slot_of names w ≡ None = is_none (slot_of names w) absent in
     record {
       few = omega (arith, few, length-append names (w ∷ []));
-      all = slots_more slots new names w slot key old h none same count updates;
+      all = slots_more slots new names w slot rank old h none same count updates;
       last = λ _. last_added names w none;
     }
 
 -- the slots stay where a name's own slot is given again
 pub slots_kept : (slots new : BTreeMap ℕ ℕ) (names : List (List ℕ)) → AreSlotsOf slots names → ((q : ℕ) → get nat_cmp new q ≡ get nat_cmp slots q) → AreSlotsOf new names
-slots_kept slots new names old same = record { few = old.few; all = λ name k. same (key_of name) ∙ old.all name k; last = old.last }
+slots_kept slots new names old same = record { few = old.few; all = λ name k. same (rank_of name) ∙ old.all name k; last = old.last }
 
 -- a slot that is given is no slot of the names before
 pub absent_is : (names : List (List ℕ)) (w : List ℕ) (o : Option ℕ) (slot next : ℕ) → o ≡ slot_of names w → slot ≡ unwrap_or o next → slot ≡ next → next ≡ length names → is_some (slot_of names w) ≡ false

@@ -1,7 +1,7 @@
 // Names of submissions.
 ghost use Rattle.std.specs.Prelude.{◌≡◌, ◌<◌, ◌≤◌, ◌^◌, true, length, Some, IfOk, IfSome};
 ghost use Rattle.std.specs.List.{list_all};
-ghost use Rattle.script_reader.specs.Names.{is_letter, is_letter_or_digit, is_name, key_of, slot_of, slot_at, with_name};
+ghost use Rattle.script_reader.specs.Names.{is_letter, is_letter_or_digit, is_name, key_of, rank_of, slot_of, slot_at, with_name};
 ghost use Rattle.script_reader.specs.Steps.{Moves};
 
 use crate::step::{NOT_A_NAME, StepError, TAKEN_NAME, UNKNOWN_NAME};
@@ -46,6 +46,15 @@ fn key(name: &[u8]) -> u64
         key = key * 256 + u64::from(name[left]);
     }
     key
+}
+
+/// Where a name stands in a map. Names are mostly given in rising order, and the map is searched from its
+/// beginning, so the last name stands first.
+fn rank(name: &[u8]) -> u64
+    requires { length name.now ≤ 8 }
+    ensures { result ≡ rank_of name.now }
+{
+    u64::MAX - key(name)
 }
 
 /// The names of a section's submissions in their order. A name's place among them is its slot.
@@ -104,7 +113,7 @@ impl<'a> Names<'a> {
     {
         match self.last_slot(name) {
             Some(slot) => Some(slot),
-            None => self.slots.get(&key(name)).copied(),
+            None => self.slots.get(&rank(name)).copied(),
         }
     }
 
@@ -134,7 +143,7 @@ impl<'a> Names<'a> {
         }
         let next = self.words.len() as u32;
         self.words.push(word)?;
-        let Ok(entry) = self.slots.entry(key(word)) else {
+        let Ok(entry) = self.slots.entry(rank(word)) else {
             self.words.pop();
             return Err(StepError::NoMemory);
         };

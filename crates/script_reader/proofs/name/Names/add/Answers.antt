@@ -21,9 +21,9 @@ invariant_of-self-else-slot-next c =
     let new = map_with_value c.in-Ok.entry slot in
     let given : slot ≡ c.len-next.result = c.if-slot-next.false in
     let old : entry_value c.in-Ok.entry ≡ slot_of names c.args.word.now =
-    c.in-Ok.ensures.value ∙ ap (get nat_cmp c.self.inside.slots) c.key.ensures ∙ c.self.invariant.all c.args.word.now name in
-    let added = slots_added c.self.inside.slots new names c.args.word.now slot c.key.result c.self.invariant name
-    (absent_is names c.args.word.now (entry_value c.in-Ok.entry) slot c.len-next.result old c.or_insert-slot.ensures.value given count) c.key.ensures (given ∙ count) (omega (arith, length_is, c.requires)) (c.in-Ok.ensures.update.0 slot) in
+    c.in-Ok.ensures.value ∙ ap (get nat_cmp c.self.inside.slots) c.rank.ensures ∙ c.self.invariant.all c.args.word.now name in
+    let added = slots_added c.self.inside.slots new names c.args.word.now slot c.rank.result c.self.invariant name
+    (absent_is names c.args.word.now (entry_value c.in-Ok.entry) slot c.len-next.result old c.or_insert-slot.ensures.value given count) c.rank.ensures (given ∙ count) (omega (arith, length_is, c.requires)) (c.in-Ok.ensures.update.0 slot) in
     record {
       few = subst (λ ns. length ns ≤ 2 ^ 32) more added.few;
       all = λ q k. grind (arith, common_steps, added.all q k, ap (λ ns. slot_of ns q) more);
