@@ -37,6 +37,7 @@ fn with_digit(base: u64, number: Option<u64>, digit: u64) -> Option<u64>
 
 /// The number that digits write: none where one isn't a digit of the base. No check is made on the way,
 /// since 64 bits hold 15 digits of any base up to 16.
+#[inline(always)]
 #[tactic(auto, using(crate::proofs::Numerals::fits_more))]
 fn short_numeral(base: u64, digits: &[u8]) -> Option<u64>
     requires high { base ≤ 16 }
@@ -52,8 +53,24 @@ fn short_numeral(base: u64, digits: &[u8]) -> Option<u64>
     Some(number)
 }
 
+/// The number that digits write: none where one isn't a digit of the base, and then none where it is above the greatest
+/// of 64 bits.
+fn long_numeral(base: u64, digits: &[u8]) -> Option<Option<u64>>
+    requires low { 1 ≤ base }
+    requires high { base ≤ 16 }
+    ensures { option_map held result ≡ option_map (λ n. min n (2 ^ 64)) (numeral_after base 0 digits.now) }
+{
+    let mut number = Some(0u64);
+    for byte in digits {
+        let digit = digit(base, *byte)?;
+        number = with_digit(base, number, digit);
+    }
+    Some(number)
+}
+
 /// The number that digits write: none where they aren't 1 to `most` digits of the base, and then none where it is above
 /// the greatest of 64 bits.
+#[inline(always)]
 fn numeral(base: u64, most: usize, digits: &[u8]) -> Option<Option<u64>>
     requires low { 1 ≤ base }
     requires high { base ≤ 16 }
@@ -62,16 +79,13 @@ fn numeral(base: u64, most: usize, digits: &[u8]) -> Option<Option<u64>>
     if digits.is_empty() || digits.len() > most {
         return None;
     }
-    if digits.len() <= SHORT {
-        let number = short_numeral(base, digits)?;
-        return Some(Some(number));
+    if digits.len() > SHORT {
+        return long_numeral(base, digits);
     }
-    let mut number = Some(0u64);
-    for byte in digits {
-        let digit = digit(base, *byte)?;
-        number = with_digit(base, number, digit);
+    match short_numeral(base, digits) {
+        Some(number) => Some(Some(number)),
+        None => None,
     }
-    Some(number)
 }
 
 #[tactic(auto, unfolding(crate::specs::Numbers::number_of))]

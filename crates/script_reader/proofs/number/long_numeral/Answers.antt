@@ -1,10 +1,9 @@
 -- Each digit goes from those that are left to the number so far.
 use Rattle.std.proofs.Common.{◌∙◌, sym, ap, arith}
-use Rattle.std.proofs.lemmas.Bool.Decides.{nat_tests}
 use Rattle.std.specs.Option.{option_map}
 use Rattle.script_reader.specs.Numbers.{held}
-use Rattle.script_reader.proofs.Numerals.{capped, capped_step, capped_stop, capped_end, numeral_of_is}
-use Rattle.script_reader.proofs.number.numeral.Goals as goal
+use Rattle.script_reader.proofs.Numerals.{capped_step, capped_stop, capped_end}
+use Rattle.script_reader.proofs.number.long_numeral.Goals as goal
 
 pub loop-byte-preserved : goal.loop-byte-preserved
 loop-byte-preserved c = (
@@ -15,12 +14,10 @@ loop-byte-preserved c = (
 
 pub returns-in_err-digit : goal.returns-in_err-digit
 returns-in_err-digit c =
-    ap (option_map held) c.from_residual-in_err-digit.ensures
+    ap (option_map held) c.from_residual.ensures
     ∙ sym (capped_stop c.args.base (held c.loop-byte.number) c.args.digits.now c.loop-byte.byte-index (omega arith) (sym c.digit.ensures.value ∙ c.in_err-digit.was))
     ∙ c.loop-byte.invariant.0
-    ∙ ap (option_map capped) (sym (numeral_of_is c.args.base c.args.most c.args.digits.now (grind (arith, nat_tests)) (omega arith)))
 
 pub returns : goal.returns
 returns c =
     sym (capped_end c.args.base (held c.loop-byte.number) c.args.digits.now c.loop-byte.byte-index (omega arith) c.loop-byte.invariant.1) ∙ c.loop-byte.invariant.0
-    ∙ ap (option_map capped) (sym (numeral_of_is c.args.base c.args.most c.args.digits.now (grind (arith, nat_tests)) (omega arith)))
