@@ -35,6 +35,13 @@ is_tried_again (Polling mask value left) reply = not (hits mask value reply) && 
 is_tried_again (StageJudging left chain) reply = is_held reply && nat_lt 0 left
 is_tried_again _ reply = false
 
+-- whether the next command begins after the last of its tries, whatever the reply
+abbrev pub ends_command : Part → Bool
+ends_command Alone = true
+ends_command (Submission unit) = true
+ends_command (Judging slot left) = true
+ends_command _ = false
+
 -- How the record ends after the awaited event, which came as this.
 abbrev pub end_after : ℕ → List Command → List (Option OpenSlot) → Event → Part → LoggedEvent → List LoggedEvent → Option SectionEnd
 end_after caller cs slots event Alone x xs = end_from caller cs slots xs

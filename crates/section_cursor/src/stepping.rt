@@ -1,5 +1,5 @@
 // What comes after an awaited event.
-ghost use Rattle.std.specs.Prelude.{◌≡◌, ◌<◌, ◌^◌, ◌≤◌, ◌+◌, ◌++◌, ◌∷◌, [], ℕ, List, Option, Some, false, length, vec_len, vec_capacity};
+ghost use Rattle.std.specs.Prelude.{◌≡◌, ◌<◌, ◌^◌, ◌≤◌, ◌+◌, ◌++◌, ◌∷◌, [], ℕ, List, Option, Some, true, false, length, vec_len, vec_capacity};
 ghost use Rattle.event_words.specs.declared.event.Event.{Event as Events};
 ghost use Rattle.event_words.specs.declared.record.LoggedEvent.{LoggedEvent as Logged};
 ghost use Rattle.event_words.specs.declared.section.Command.{Command};
@@ -10,7 +10,7 @@ ghost use Rattle.std.specs.List.{AllByRecursion};
 ghost use Rattle.event_words.specs.Events.{caller_of};
 ghost use Rattle.event_words.specs.Valid.{IsValidAccess, IsValidEvent};
 ghost use Rattle.section_cursor.specs.ValidEvents.{IsValidAhead, IsValidChain, IsValidSlot, IsValidPart};
-ghost use Rattle.section_cursor.specs.Cursors.{end_of_rest, end_after, stages_on, is_tried_again, submits, part_submits, AheadHasTries, PartHasTries};
+ghost use Rattle.section_cursor.specs.Cursors.{end_of_rest, end_after, stages_on, is_tried_again, ends_command, submits, part_submits, AheadHasTries, PartHasTries};
 
 use crate::ahead::{Ahead, Chain, OpenSlot, Part};
 use crate::beginning::{passing, stage_judging, wide_event};
@@ -123,41 +123,56 @@ fn after_stage_judgements(caller: u8, chain: Chain, logged: &LoggedEvent) -> Ahe
     }
 }
 
-/// What comes after the awaited event, which came as this one and isn't tried again. A submission adds
-/// its slot, for which there must be room.
-#[inline(never)]
-pub(crate) fn ahead_after(
-    caller: u8,
+/// Whether the next command begins after the awaited event, which came as this one and isn't tried
+/// again. A submission adds its slot, for which there must be room, and a verdict closes the slot of its
+/// submission. Where it goes on otherwise, nothing changes.
+pub(crate) fn ends_command(
     slots: &mut Vec<Option<OpenSlot>>,
     part: &Part,
     logged: &LoggedEvent,
-) -> Ahead
+) -> bool
     requires last { is_tried_again part.now logged.now.reply ≡ false }
     requires room { vec_len slots.old + part_submits part.now ≤ vec_capacity slots.old }
-    ensures rest { (event : Events) (cs : List Command) (xs : List Logged) →
-        end_of_rest caller cs slots.new.items result xs ≡ end_after caller cs slots.old.items event part.now logged.now xs }
-    ensures tries { PartHasTries part.now → AheadHasTries result }
-    ensures count { vec_len slots.new + submits result ≡ vec_len slots.old + part_submits part.now }
+    ensures ends { result ≡ ends_command part.now }
+    ensures rest { ends_command part.now ≡ true → (caller : ℕ) (event : Events) (cs : List Command) (xs : List Logged) →
+        end_from caller cs slots.new.items xs ≡ end_after caller cs slots.old.items event part.now logged.now xs }
+    ensures count { ends_command part.now ≡ true → vec_len slots.new ≡ vec_len slots.old + part_submits part.now }
+    ensures same { ends_command part.now ≡ false → slots.new ≡ slots.old }
     ensures capacity { vec_capacity slots.new ≡ vec_capacity slots.old }
-    ensures valid { caller < 32 → logged.now.place < 2 ^ 24 → IsValidPart part.now → IsValidAhead caller result }
     ensures slots { logged.now.place < 2 ^ 24 → IsValidPart part.now → AllByRecursion IsValidSlot slots.old.items → AllByRecursion IsValidSlot slots.new.items }
 {
     match *part {
-        Part::Alone => Ahead::Between,
+        Part::Alone => true,
         Part::Submission { unit } => {
             slots.push_reserved(opened_slot(unit, logged));
-            Ahead::Between
+            true
         }
-        Part::Aiming { unit, access } => after_aim(caller, unit, access),
         Part::Judging { slot, .. } => {
             close(&logged.reply, slot, slots);
-            Ahead::Between
+            true
         }
+        _ => false,
+    }
+}
+
+/// What comes after an awaited event that goes on otherwise.
+pub(crate) fn ahead_after(caller: u8, part: &Part, logged: &LoggedEvent) -> Ahead
+    requires last { is_tried_again part.now logged.now.reply ≡ false }
+    requires goes_on { ends_command part.now ≡ false }
+    ensures rest { (event : Events) (cs : List Command) (slots : List (Option records.OpenSlot)) (xs : List Logged) →
+        end_of_rest caller cs slots result xs ≡ end_after caller cs slots event part.now logged.now xs }
+    ensures tries { PartHasTries part.now → AheadHasTries result }
+    ensures count { submits result ≡ part_submits part.now }
+    ensures valid { caller < 32 → logged.now.place < 2 ^ 24 → IsValidPart part.now → IsValidAhead caller result }
+{
+    match *part {
+        Part::Aiming { unit, access } => after_aim(caller, unit, access),
         Part::Polling { mask, value, .. } => after_polls(mask, value, logged),
         Part::StageAiming { unit, rrid, chain } => {
             after_stage_aim(caller, unit, rrid, chain, logged)
         }
         Part::Stage { unit, chain } => after_stage(caller, unit, chain, logged),
         Part::StageJudging { chain, .. } => after_stage_judgements(caller, chain, logged),
+        _ => Ahead::Between,
     }
 }
