@@ -1,10 +1,9 @@
 -- What a decision needs of the entries that touch or cover a transaction.
-use Rattle.std.specs.Prelude.{◌≡◌, ℕ, ◌+◌, Bool, List, slice_get}
+use Rattle.std.specs.Prelude.{◌≡◌, ℕ, ◌+◌, List, slice_get}
 use Rattle.std.specs.List.{list_any}
 use Rattle.event_words.specs.declared.access.Access.{Access}
 use Rattle.event_words.specs.Word.{kind_code}
 use Rattle.event_words.specs.Registers.{Registers}
-use Rattle.event_words.specs.Entries.{touches}
 use Rattle.event_words.specs.Decisions.{entry_grants, mutes}
 use Rattle.match_rules.specs.declared.covering.Summary.{Summary}
 
@@ -14,7 +13,3 @@ pub record IsSummary (r : Registers) (a : Access) (covering : List ℕ) (summary
   pub grants : summary.grants ≡ list_any (entry_grants r a.rrid a.kind) covering
   pub mute_irq : summary.mute_irq ≡ mutes r (5 + kind_code a.kind) covering
   pub mute_err : summary.mute_err ≡ mutes r (8 + kind_code a.kind) covering
-
--- Entry j has some byte of the transaction.
-abbrev pub is_touched_by : Registers → Access → ℕ → Bool
-is_touched_by r a j = touches r j a

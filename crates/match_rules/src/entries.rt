@@ -1,26 +1,36 @@
 // One entry and a transaction.
-ghost use Rattle.std.specs.Prelude.{◌≡◌, ◌<◌, IsTrue, min};
+ghost use Rattle.std.specs.Prelude.{◌≡◌, ◌<◌, IsTrue, nat_lt};
 ghost use Rattle.event_words.specs.Valid.{IsValidAccess};
 ghost use Rattle.event_words.specs.Entries.{touches, covers};
-ghost use Rattle.event_words.specs.Decisions.{is_entry_of, entry_grants, prio_count, has_cfg_bit};
+ghost use Rattle.event_words.specs.Decisions.{is_entry_of, entry_grants, prio_count, has_cfg_bit, is_touching, is_covering};
 
 use entry_ranges::range_of;
 use event_words::{Access, Register};
 use mdcfg_formats::domain_of;
 use register_fields::{Regs, has_bit};
-use srcmd_formats::grants;
+use srcmd_formats::{domains_of, grants, has_domain};
 
-/// Where the priority entries of the shape end: at HWCFG2.prio_entry, or after the last entry.
-pub fn prio_end(regs: &Regs) -> u16
-    ensures { result ≡ min (prio_count regs.now) regs.now.shape.entries }
+/// Whether the entry is a priority entry, one below HWCFG2.prio_entry.
+fn is_priority(regs: &Regs, entry: u16) -> bool
+    ensures { result ≡ nat_lt entry (prio_count regs.now) }
 {
-    let entries = regs.shape().entries;
-    let count = (regs.word(Register::Hwcfg2) % 65536) as u16;
-    if count < entries { count } else { entries }
+    (entry as u32) < regs.word(Register::Hwcfg2) % 65536
+}
+
+/// Whether the entry is one of the requester's.
+fn is_entry_of(regs: &Regs, rrid: u8, entry: u16) -> bool
+    requires { entry < regs.now.shape.entries }
+    ensures { result ≡ is_entry_of regs.now rrid entry }
+{
+    let _shape = regs.shape();
+    match domain_of(regs, entry) {
+        None => false,
+        Some(domain) => has_domain(domains_of(regs, rrid), domain),
+    }
 }
 
 /// Whether the entry has some byte of the transaction.
-pub fn touches(regs: &Regs, entry: u16, access: &Access) -> bool
+fn touches(regs: &Regs, entry: u16, access: &Access) -> bool
     requires entry { entry < regs.now.shape.entries }
     requires access { IsValidAccess access.now }
     ensures { result ≡ touches regs.now entry access.now }
@@ -41,6 +51,32 @@ pub fn covers(regs: &Regs, entry: u16, access: &Access) -> bool
         None => false,
         Some(range) => range.covers(access),
     }
+}
+
+/// Whether it is a priority entry of the requester that has some byte of the transaction.
+pub fn is_touching(regs: &Regs, access: &Access, entry: u16) -> bool
+    requires entry { entry < regs.now.shape.entries }
+    requires access { IsValidAccess access.now }
+    ensures value { result ≡ is_touching regs.now access.now entry }
+    ensures own { IsTrue result → IsTrue (is_entry_of regs.now access.now.rrid entry) }
+{
+    if !is_priority(regs, entry) || !is_entry_of(regs, access.rrid, entry) {
+        return false;
+    }
+    touches(regs, entry, access)
+}
+
+/// Whether it is another entry of the requester, which has every byte of the transaction.
+pub fn is_covering(regs: &Regs, access: &Access, entry: u16) -> bool
+    requires entry { entry < regs.now.shape.entries }
+    requires access { IsValidAccess access.now }
+    ensures value { result ≡ is_covering regs.now access.now entry }
+    ensures own { IsTrue result → IsTrue (is_entry_of regs.now access.now.rrid entry) }
+{
+    if is_priority(regs, entry) || !is_entry_of(regs, access.rrid, entry) {
+        return false;
+    }
+    covers(regs, entry, access)
 }
 
 /// One bit of the entry's ENTRY_CFG.

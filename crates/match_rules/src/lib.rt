@@ -17,7 +17,6 @@ use entries::{covers, entry_grants, has_cfg_bit};
 use event_words::{Access, Decision, Register};
 use priority::first_touching;
 use register_fields::{Regs, has_bit};
-use srcmd_formats::domains_of;
 
 fn violation(kind: u8, entry: u16) -> Decision
     ensures { result ≡ violation kind entry }
@@ -89,9 +88,8 @@ pub fn decide(regs: &Regs, access: &Access) -> Decision
     if access.rrid >= regs.shape().rrids {
         return violation(6, 0xffff);
     }
-    let domains = domains_of(regs, access.rrid);
-    match first_touching(regs, access, domains) {
+    match first_touching(regs, access) {
         Some(entry) => by_touching(regs, access, entry),
-        None => by_covering(access, covering(regs, access, domains)),
+        None => by_covering(access, covering(regs, access)),
     }
 }
