@@ -10,7 +10,7 @@ use Rattle.event_words.specs.Valid.{IsValidEvent}
 use Rattle.event_words.specs.Word.{word_of}
 use Rattle.event_words.proofs.Runs.{run_from-append, run-snoc, logged_from-append, events_by-append}
 use Rattle.unit_core.specs.Units.{FabricState}
-use Rattle.unit_core.specs.Fabrics.{state_after_word, reply_to_word}
+use Rattle.unit_core.specs.Fabrics.{FabricView, state_after_word, reply_to_word}
 use Rattle.shared_log.specs.Callers.{AfterCall}
 use Rattle.shared_log.specs.Words.{AllEventWords}
 use Rattle.shared_log.proofs.WordLists.{AllEventWords-left, AllEventWords-right}
@@ -165,7 +165,8 @@ stands p q before x later h all =
     let log : List ℕ = p.log ++ t.earlier in
     let longer : List ℕ = log ++ w ∷ [] in
     let at : PortView = record p { log = log; left = 1 } in
-    let next : PortView = record p { log = longer; left = 0 } in
+    let units : FabricView = record p.machine { state = run state_after_word p.first longer } in
+    let next : PortView = record p { log = longer; left = 0; machine = units } in
     let state_is : run state_after_word p.first log ≡ state_from (length p.log) s t.earlier =
     run_from-append state_after_word 0 p.first p.log t.earlier ∙ ap (λ (n : ℕ). run_from state_after_word n s t.earlier) (zero-add (length p.log)) in
     let place_is : x.place ≡ length log = t.place ∙ sym (length-append p.log t.earlier) in
@@ -187,7 +188,7 @@ stands p q before x later h all =
       number = refl;
       first = refl;
       grown = let k = t.place in omega arith;
-      event = makes_event at next x.event x.reply call t.valid t.bears;
+      event = makes_event at next x.event x.reply call refl t.valid t.bears;
       valid = t.valid;
       place = omega arith;
       all = AllEventWords-left longer t.rest (subst AllEventWords whole all);

@@ -1,5 +1,5 @@
 -- An access that a port sends through units: no reply is odd, and no ticket from before ends.
-use Rattle.std.proofs.Common.{◌≡◌, ℕ, zero, suc, ◌+◌, ◌-◌, ◌^◌, ◌<◌, ◌≤◌, Bool, true, false, cond, List, [], ◌∷◌, ◌++◌, length, get_or, Option, Some, None, refl, sym, ap, ◌∙◌, subst, arith, append_assoc, append-nil, length-append, eqb, ◌⊎◌, inl, inr, ⊎_elim}
+use Rattle.std.proofs.Common.{◌≡◌, ℕ, zero, suc, ◌+◌, ◌-◌, ◌^◌, ◌<◌, ◌≤◌, Bool, true, false, cond, List, [], ◌∷◌, ◌++◌, length, get_or, Option, Some, None, refl, sym, ap, ◌∙◌, subst, arith, append_assoc, append-nil, eqb, ◌⊎◌, inl, inr, ⊎_elim}
 use Rattle.std.specs.Prelude.{nat_lt, option_and_then}
 use Rattle.std.specs.List.{AllByRecursion, list_any, last_or}
 use Rattle.std.proofs.lemmas.Bool.{or_from, and_right, le-leb}
@@ -340,12 +340,7 @@ plays_through p q stages a max answer s all reset fits units =
     let whole : through_stages p.number max a stages a.rrid s.made ≡ Some [] = ap (through_stages p.number max a stages a.rrid) (sym (append-nil s.made)) ∙ s.record_is [] in
     let plain : is_odd answer ≡ false = never_odd p q all max a stages s.made answer more reset fits units whole s.decided in record {
       made = s.made;
-      adds = record {
-        own = s.adds.own;
-        left = s.adds.left;
-        grown = let l : length q.log ≡ length (p.log ++ s.adds.later) = ap length s.adds.log in omega (arith, length-append p.log s.adds.later);
-        same = same;
-      };
+      adds = s.adds;
       whole = chain_whole s.made answer s.decided plain;
       few = s.few;
       record_is = s.record_is;

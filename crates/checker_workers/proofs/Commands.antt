@@ -20,13 +20,13 @@ use Rattle.cascade_path.proofs.Submitting.{submission_count}
 use Rattle.checker_workers.specs.declared.ticket.Submitted.{Submitted}
 use Rattle.checker_workers.specs.declared.ticket.Submitted.TheVariants as submitted
 use Rattle.checker_workers.specs.declared.ticket.Judged.TheVariants.{Done, Held}
+use Rattle.cascade_path.proofs.Repeats.{first_as-cons}
 use Rattle.checker_workers.specs.Ports.{PortView, MakesEvent, is_aim, unit_count}
 use Rattle.checker_workers.specs.TicketViews.{TicketView}
 use Rattle.checker_workers.specs.Tickets.{IsOpenTicket, MakesSubmission, HandsOut, submitted_reply, last_ticket}
 use Rattle.checker_workers.specs.Slots.{slots_of, slot_of_ticket, IsJudgeable, IsTicketTable}
 use Rattle.checker_workers.specs.Pieces.{Polls, SettlesTicket, PlaysThrough, PlaysSlot, PlaysCommand, cut_to, ticket_of}
 use Rattle.checker_workers.proofs.Chains.{before_end, submission_ends}
-use Rattle.checker_workers.proofs.Repeats.{first_as-cons}
 use Rattle.checker_workers.proofs.Resting.{ends_one}
 use Rattle.checker_workers.proofs.Submitting.{SubmissionMade, submission_made}
 use Rattle.checker_workers.proofs.Tables.{slot_of-slots, slots_of-append, slots_of-set, set_back, table_without, table_kept, table_back, table_pushed, others_apart, IsNewSlot}

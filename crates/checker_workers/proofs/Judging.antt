@@ -24,7 +24,6 @@ use Rattle.checker_workers.specs.Tickets.{IsOpenTicket, Judges, is_end, is_in_qu
 use Rattle.checker_workers.proofs.Making.{answers, with_reply}
 use Rattle.checker_workers.proofs.OpenTickets.{ticket_kept}
 use Rattle.checker_workers.proofs.Standing.{judgement, open_reply}
-use Rattle.history_laws.proofs.TicketReplies.{IsJudged}
 
 -- ---- a judgement's replies
 
@@ -55,29 +54,19 @@ judged_done p q t r v m unit is = record {
   ticket = tt;
 }
 
-held_only : (r : Reply) → IsJudged r → is_verdict r ≡ false → r ≡ replies.Held
-held_only r h none_given = ⊎_elim
-    (λ (e : r ≡ replies.Held). e)
-    (λ (e : (v : Verdict) × (r ≡ replies.Verdict v)). absurd (let n : true ≡ false = sym (ap is_verdict e.1) ∙ none_given in cc)) h
-
-pub judged_held : (p q : PortView) (t : TicketView) (r : Reply) → MakesEvent p (judgement t) r q → t.unit < unit_count p → IsAtReset p.first → AllEventWords q.log → IsValidEvent (judgement t) → IsOpenTicket p t → is_verdict r ≡ false
-    → Judges p t (Held t) q
-judged_held p q t r m unit reset all valid h none_given =
-    let is : r ≡ replies.Held = held_only r (open_reply p q t r m reset all valid h) none_given in
+pub judged_held : (p q : PortView) (t : TicketView) (r : Reply) → MakesEvent p (judgement t) r q → t.unit < unit_count p → IsOpenTicket p t → r ≡ replies.Held → Judges p t (Held t) q
+judged_held p q t r m unit h is =
     let x : LoggedEvent = logged_at (length (p.log ++ m.between)) (judgement t) r in
-    let none : is_end t x ≡ false = and_right (nat_lt t.place x.place) _ (and_right (same_event (judgement t) (judgement t)) (is_verdict r) none_given) in record {
+    let none : is_end t x ≡ false = and_right (nat_lt t.place x.place) _ (and_right (same_event (judgement t) (judgement t)) (is_verdict r) (ap is_verdict is)) in record {
       event = with_reply p q (judgement t) r replies.Held m is;
       held = ap is_held (sym is) ∙ held_where p q t r m unit;
       ticket = (refl, ticket_kept p q (x ∷ []) t m.own (ap (λ (v : PortView). v.number) m.same) (or_from (is_end t x) false none refl) h);
     }
 
-pub no_verdict : (r : Reply) → ((v : Verdict) → r ≡ replies.Verdict v → ⊥) → is_verdict r ≡ false
-no_verdict replies.Passed h = refl
-no_verdict replies.Queued h = refl
-no_verdict replies.Busy h = refl
-no_verdict (replies.Stalled d) h = refl
-no_verdict (replies.Value n) h = refl
-no_verdict (replies.Verdict v) h = absurd (h v refl)
-no_verdict replies.Held h = refl
-no_verdict replies.NoSuch h = refl
-no_verdict replies.Aimed h = refl
+-- A judgement of an open ticket is replied nothing else.
+pub judged_only : (p q : PortView) (t : TicketView) (r : Reply) → MakesEvent p (judgement t) r q → IsAtReset p.first → AllEventWords q.log → IsValidEvent (judgement t) → IsOpenTicket p t
+    → ((v : Verdict) → r ≡ replies.Verdict v → ⊥) → (r ≡ replies.Held → ⊥) → ⊥
+judged_only p q t r m reset all valid h no_verdict not_held = ⊎_elim
+    (λ (e : r ≡ replies.Held). not_held e)
+    (λ (e : (v : Verdict) × (r ≡ replies.Verdict v)). no_verdict e.0 e.1)
+    (open_reply p q t r m reset all valid h)

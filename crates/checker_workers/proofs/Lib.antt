@@ -1,7 +1,7 @@
 pub mod Making
 pub mod Aims
 pub mod OpenTickets
-pub mod Repeats
+pub mod PolledReads
 pub mod Standing
 pub mod Judging
 pub mod Tables

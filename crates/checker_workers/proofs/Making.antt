@@ -4,7 +4,6 @@ use Rattle.std.specs.Prelude.{slice_get, nat_lt, not, if◌then◌else◌}
 use Rattle.std.proofs.lemmas.List.{length-map, length-set}
 use Rattle.std.proofs.lemmas.Option.{slice_get-get_or}
 use Rattle.event_words.specs.declared.access.Access.{Access}
-use Rattle.event_words.specs.declared.reply.Denial.{Denial}
 use Rattle.event_words.specs.declared.event.Event.{Event}
 use Rattle.event_words.specs.declared.event.Event.TheVariants as events
 use Rattle.event_words.specs.declared.reply.Reply.{Reply}
@@ -30,14 +29,16 @@ few_units s r = let few = r.few in let e = ap (λ (x : FabricState). length x.un
 pub reply_of_event : (k : ℕ) (s : FabricState) (e : Event) → IsValidEvent e → reply_to_word s k (word_of e) ≡ (fabric_step k s e).1
 reply_of_event k s e valid = ap (λ (o : Option Event). (decoded_step k s o).1) (event_at-word_of e valid)
 
-pub makes_event : (p q : PortView) (e : Event) (r : Reply) → AfterCall state_after_word reply_to_word p (word_of e) r q → IsValidEvent e → caller_of e ≡ p.number → MakesEvent p e r q
-makes_event p q e r call valid own =
+pub makes_event : (p q : PortView) (e : Event) (r : Reply) → AfterCall state_after_word reply_to_word p (word_of e) r q → q.machine.state ≡ state_after q q.log → IsValidEvent e → caller_of e ≡ p.number
+    → MakesEvent p e r q
+makes_event p q e r call at valid own =
     let words : List ℕ = p.log ++ call.between in record {
       between = call.between;
       others = call.others;
       log = call.log;
       answered = call.answered ∙ reply_of_event (length words) (state_after p words) e valid;
       own = own_events-after-call state_after_word reply_to_word p q e r call valid own;
+      replica = at;
       left = call.left;
       same = call.same;
     }
@@ -122,17 +123,6 @@ submit_by k u c a false false false = refl
 pub submit_reply : (k : ℕ) (u : UnitState) (c : ℕ) (a : Access) → is_submit_reply (submit_step k u c a).1 ≡ true
 submit_reply k u c a = submit_by k u c a (not (is_stalled u a.rrid)) (nat_lt (queue_length u) u.registers.shape.queue) (has_bit (reg u.registers ErrCfg) 3)
 
-pub busy_only : (r : Reply) → is_submit_reply r ≡ true → (r ≡ replies.Passed → ⊥) → (r ≡ replies.Queued → ⊥) → ((d : Denial) → r ≡ replies.Stalled d → ⊥) → r ≡ replies.Busy
-busy_only replies.Passed h p q s = absurd (p refl)
-busy_only replies.Queued h p q s = absurd (q refl)
-busy_only replies.Busy h p q s = refl
-busy_only (replies.Stalled d) h p q s = absurd (s d refl)
-busy_only (replies.Value n) h p q s = let n : false ≡ true = h in cc
-busy_only (replies.Verdict v) h p q s = let n : false ≡ true = h in cc
-busy_only replies.Held h p q s = let n : false ≡ true = h in cc
-busy_only replies.NoSuch h p q s = let n : false ≡ true = h in cc
-busy_only replies.Aimed h p q s = let n : false ≡ true = h in cc
-
 -- the same event with a reply that is the same
 abbrev pub with_reply : (p q : PortView) (e : Event) (r r' : Reply) → MakesEvent p e r q → r ≡ r' → MakesEvent p e r' q
 with_reply p q e r r' m is = record {
@@ -141,6 +131,7 @@ with_reply p q e r r' m is = record {
   log = m.log;
   answered = sym is ∙ m.answered;
   own = m.own ∙ ap (λ (x : Reply). own_events p ++ logged_at (length (p.log ++ m.between)) e x ∷ []) is;
+  replica = m.replica;
   left = m.left;
   same = m.same;
 }

@@ -29,11 +29,11 @@ use Rattle.history_laws.proofs.Accepted.{Submits, taken_submission}
 use Rattle.history_laws.proofs.WordHistories.{event_at_words, reply_at_words, is_entry, has_entry, length_events}
 use Rattle.history_laws.proofs.LoggedTests.{found_kept, none_kept}
 use Rattle.history_laws.proofs.TicketReplies.{IsJudged, judged_open, same_event_before, same_reply_before}
+use Rattle.cascade_path.proofs.Repeats.{same_event-refl}
 use Rattle.checker_workers.specs.Ports.{PortView, IsAtReset, MakesEvent, own_events, state_after}
 use Rattle.checker_workers.specs.TicketViews.{TicketView}
 use Rattle.checker_workers.specs.Tickets.{IsOpenTicket, is_submission, is_end, submits_on}
 use Rattle.checker_workers.proofs.Making.{reply_of_event}
-use Rattle.checker_workers.proofs.Repeats.{same_event-refl}
 
 abbrev pub judgement : TicketView → Event
 judgement t = events.Judge t.unit t.caller t.place

@@ -15,7 +15,7 @@ use Rattle.checker_workers.specs.Tickets.{MakesByWidth, MakesSubmission, MakesWi
 use Rattle.checker_workers.specs.Pieces.{MakesEvents}
 use Rattle.checker_workers.proofs.Aims.{wide_answers}
 use Rattle.checker_workers.proofs.Making.{answers, submit_reply}
-use Rattle.checker_workers.proofs.Turns.{made_by, makes_one, makes_more}
+use Rattle.checker_workers.proofs.Turns.{made_by, makes_one, makes_more, grown}
 
 -- What the calls of a submission tell.
 pub record Submits (p : PortView) (unit : ℕ) (a : Access) (r : Reply) (q : PortView) : Type 0 where
@@ -80,7 +80,7 @@ made_wide p q unit a r wide m =
       adds = makes_more p m.between q (x ∷ []) f r one m.wide;
       is = inr (record { wide = wide; aim = x; after_aim = refl; aims = refl; aimed = refl; event = refl });
       place = sym (longer m.between q f r m.wide);
-      past = let l = one.grown in omega (arith, length-append m.between.log m.wide.between);
+      past = let l = grown p m.between (x ∷ []) one in omega (arith, length-append m.between.log m.wide.between);
       reply = refl;
     }
 

@@ -11,6 +11,7 @@ use Rattle.checker_workers.specs.Tickets.{IsOpenTicket, is_end}
 use Rattle.checker_workers.specs.Slots.{slot_of_ticket, slots_of, IsJudgeable, IsTicketTable}
 use Rattle.checker_workers.specs.Pieces.{MakesEvents}
 use Rattle.checker_workers.proofs.OpenTickets.{ticket_kept}
+use Rattle.checker_workers.proofs.Turns.{grown}
 
 abbrev Table : Type 0
 Table = List (Option TicketView)
@@ -63,7 +64,7 @@ judgeable_kept : (p q : PortView) (made : List LoggedEvent) (t : TicketView) →
 judgeable_kept p q made t m none h = record {
   ticket = ticket_kept p q made t m.own (ap (λ (v : PortView). v.number) m.same) none h.ticket;
   unit = subst (λ (n : ℕ). t.unit < n) (sym (ap (λ (v : PortView). unit_count v) m.same)) h.unit;
-  past = let a = h.past in let b = m.grown in omega arith;
+  past = let a = h.past in let b = grown p q made m in omega arith;
 }
 
 pub table_kept : (p q : PortView) (made : List LoggedEvent) (table : Table) → MakesEvents p made q → ((i : ℕ) (t : TicketView) → get_or table i None ≡ Some t → list_any (is_end t) made ≡ false) → IsTicketTable p table → IsTicketTable q table
@@ -94,7 +95,7 @@ table_back p q made table i t m e others open_still h =
         subst (IsJudgeable q) (sym is) (record {
           ticket = open_still;
           unit = subst (λ (n : ℕ). t.unit < n) (sym (ap (λ (v : PortView). unit_count v) m.same)) (h.each i t e).unit;
-          past = let a = (h.each i t e).past in let b = m.grown in omega arith;
+          past = let a = (h.each i t e).past in let b = grown p q made m in omega arith;
         })
 
 -- ---- one slot more

@@ -8,22 +8,21 @@ use Rattle.event_words.specs.declared.record.LoggedEvent.{LoggedEvent}
 use Rattle.event_words.specs.declared.section.Command.{Command}
 use Rattle.event_words.specs.Sections.{most_events, submission_events}
 use Rattle.event_words.specs.Records.{judgements, polls, piece, settle_piece, slot_of, through_stages, Cut}
+use Rattle.unit_core.specs.Fabrics.{state_after_word, reply_to_word}
 use Rattle.cascade_path.specs.declared.chain.ChainReply.{ChainReply}
+use Rattle.cascade_path.specs.Making.{MakesEvents as CallerMakes}
 use Rattle.cascade_path.specs.Answers.{chain_reply, is_odd}
 use Rattle.checker_workers.specs.declared.ticket.Judged.{Judged}
 use Rattle.checker_workers.specs.declared.ticket.Submitted.{Submitted}
 use Rattle.checker_workers.specs.declared.ticket.Submitted.TheVariants.{Passed, Queued, Busy, Stalled}
-use Rattle.checker_workers.specs.Ports.{PortView, EndWhole, own_events}
+use Rattle.checker_workers.specs.Ports.{PortView, EndWhole}
 use Rattle.checker_workers.specs.TicketViews.{TicketView}
 use Rattle.checker_workers.specs.Tickets.{is_end, judged_reply, HandsBack}
 use Rattle.checker_workers.specs.Slots.{slots_of, IsTicketTable}
 
 -- The port's caller made exactly these events more. Nothing else changed but its replica.
-pub record MakesEvents (p : PortView) (made : List LoggedEvent) (q : PortView) : Type 0 where
-  pub own : own_events q ≡ own_events p ++ made
-  pub left : q.left + length made ≡ p.left
-  pub grown : length p.log ≤ length q.log
-  pub same : q ≡ record p { log = q.log; left = q.left; machine = q.machine }
+abbrev pub MakesEvents : PortView → List LoggedEvent → PortView → Type 0
+MakesEvents p made q = CallerMakes state_after_word reply_to_word p made q
 
 -- Up to `max` judgements of a ticket.
 pub record SettlesTicket (p : PortView) (t : TicketView) (max : ℕ) (judged : Judged) (q : PortView) : Type 0 where

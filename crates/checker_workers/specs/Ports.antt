@@ -47,13 +47,15 @@ abbrev pub logged_at : ℕ → Event → Reply → LoggedEvent
 logged_at place event reply = record { place = place; event = event; reply = reply }
 
 -- An event of the port's caller, after events of others. Its reply is that of the units at its place.
--- Nothing else changes but the replica of the units and what is left of the budget.
+-- Nothing else changes but the replica of the units, which is in the state after the event, and what is left
+-- of the budget.
 pub record MakesEvent (p : PortView) (event : Event) (reply : Reply) (q : PortView) : Type 0 where
   pub between : List ℕ
   pub others : words_by p.number between ≡ []
   pub log : q.log ≡ (p.log ++ between) ++ word_of event ∷ []
   pub answered : reply ≡ (fabric_step (length (p.log ++ between)) (state_after p (p.log ++ between)) event).1
   pub own : own_events q ≡ own_events p ++ logged_at (length (p.log ++ between)) event reply ∷ []
+  pub replica : q.machine.state ≡ state_after q q.log
   pub left : q.left + 1 ≡ p.left
   pub same : q ≡ record p { log = q.log; left = q.left; machine = q.machine }
 

@@ -201,7 +201,8 @@ impl Port {
             Reply::Passed => Submitted::Passed(self.last_ticket(unit)),
             Reply::Queued => Submitted::Queued(self.last_ticket(unit)),
             Reply::Stalled(denial) => Submitted::Stalled(denial),
-            _ => Submitted::Busy,
+            Reply::Busy => Submitted::Busy,
+            _ => unreachable!(),
         }
     }
 
@@ -235,7 +236,8 @@ impl Port {
         };
         match self.make(shared, event) {
             Reply::Verdict(verdict) => Judged::Done(verdict),
-            _ => Judged::Held(ticket),
+            Reply::Held => Judged::Held(ticket),
+            _ => unreachable!(),
         }
     }
 
@@ -268,6 +270,6 @@ fn value_of(reply: Reply) -> u32
 {
     match reply {
         Reply::Value(value) => value,
-        _ => 0,
+        _ => unreachable!(),
     }
 }

@@ -9,4 +9,4 @@ use Rattle.checker_workers.proofs.port.Port.make.Goals as goal
 pub returns-clause-event : goal.returns-clause-event
 returns-clause-event c =
     makes_event c.args.self.now c.call.new.self c.args.event c.call.result
-    (subst (λ (p : PortView). AfterCall state_after_word reply_to_word p (word_of c.args.event) c.call.result c.call.new.self) c.self.view_is c.call.ensures.call) c.requires.event c.requires.caller
+    (subst (λ (p : PortView). AfterCall state_after_word reply_to_word p (word_of c.args.event) c.call.result c.call.new.self) c.self.view_is c.call.ensures.call) c.call.ensures.caller.replica c.requires.event c.requires.caller
