@@ -153,7 +153,7 @@ fn play_sections<R: Threads + Sync, G: Gate + Sync>(
 }
 
 /// Plays the boot section by the first caller of a log, and then the lanes beside each other, each by
-/// a caller and a thread of its own. A lane calls the gate before each of its events.
+/// a caller and a thread of its own. Each section tells the gate of its steps as `Gate` says.
 ///
 /// The script has 1 to 4 units and at most 16 lanes, its sections are valid and name units that are
 /// there, and it needs at most 1048576 events. `Ok` gives a legal history of the script, which has no

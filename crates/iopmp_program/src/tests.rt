@@ -1,4 +1,5 @@
 // The program over streams in memory.
+mod aims;
 mod bad_lines;
 mod bad_policies;
 mod command_words;

@@ -5,7 +5,7 @@ use crate::tests::rows::UNIT;
 use std::test::Fail;
 
 /// Commands of a boot section, the first bad line and its code.
-const BAD_LINES: [(&str, u32, u8); 22] = [
+const BAD_LINES: [(&str, u32, u8); 23] = [
     ("w 0 0x8\n", 4, 4),
     ("w 0 0x9 0x1\n", 4, 6),
     ("w 0 0x8 0x100000000\n", 4, 6),
@@ -17,6 +17,11 @@ const BAD_LINES: [(&str, u32, u8); 22] = [
     ("t 0 64 r 0x0 1 as a\n", 4, 6),
     ("t 0 3 q 0x0 1 as a\n", 4, 7),
     ("t 0 3 r 0x0 4097 as a\n", 4, 6),
+    (
+        "w 0 0x800 0x8\nw 0 0x1060 0x2\nw 0 0x8 0x1\nw 0 0x2000 0xffffffff\nw 0 0x2004 0xffffffff\nw 0 0x2008 0x19\nt 0 3 r 0xfffffffffffff 2 as a\n",
+        10,
+        6,
+    ),
     ("t 0 3 r 0x0 1 at a\n", 4, 4),
     ("t 0 3 r 0x0 1 as A\n", 4, 8),
     ("t 0 3 r 0x0 1 as a\nt 0 3 r 0x0 1 as a\n", 5, 9),

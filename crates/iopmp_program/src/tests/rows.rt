@@ -18,7 +18,7 @@ pub const UNIT: &str =
     "unit rrids 4 domains 3 entries 8 mdcfg 0 k 0 srcmd 0 sps 0 queue 1 transl -";
 
 /// Each row's script and its report.
-pub const ROWS: [Row; 24] = [
+pub const ROWS: [Row; 27] = [
     Row {
         shows: "reads of the last byte and past the end of a range",
         unit: UNIT,
@@ -70,6 +70,39 @@ pub const ROWS: [Row; 24] = [
         parts: [
             "4 0 w 0 0x2004 0xffffffff = 0x3ffff\n",
             "7 0 j 0 6 = allowed 3\n",
+            "",
+            "",
+        ],
+    },
+    Row {
+        shows: "an access past the addresses of narrow ones",
+        unit: UNIT,
+        commands: "w 0 0x800 0x8\nw 0 0x1060 0x2\nw 0 0x8 0x1\nw 0 0x2000 0xffffffff\nw 0 0x2004 0xffffffff\nw 0 0x2008 0x19\nt 0 3 r 0xffffffffff 2 as a\nj a\n",
+        parts: [
+            "4 0 w 0 0x2004 0xffffffff = 0x3ffff\n",
+            "6 0 a 0xffffffffff = aimed\n7 0 ",
+            "\n8 0 j 0 7 = allowed 3\n",
+            "",
+        ],
+    },
+    Row {
+        shows: "an access of a whole page, and one that begins a byte later",
+        unit: UNIT,
+        commands: "w 0 0x800 0x8\nw 0 0x1060 0x2\nw 0 0x8 0x1\nw 0 0x2000 0x200001ff\nw 0 0x2008 0x19\nt 0 3 r 0x80000000 4096 as a\nj a\nt 0 3 r 0x80000001 4096 as b\nj b\n",
+        parts: [
+            "events 11\n",
+            "5 0 a 0x80000000 = aimed\n6 0 t 0 3 r @ 4096 = passed\n7 0 j 0 6 = allowed 3\n8 0 a 0x80000001 = aimed\n9 0 t 0 3 r @ 4096 = passed\n10 0 j 0 9 = denied 5 - err noirq\nsection 0 done\nunit 0 0x53 0x20000000 0x0 0xffff0003\n",
+            "",
+            "",
+        ],
+    },
+    Row {
+        shows: "an access to the last byte of all",
+        unit: UNIT,
+        commands: "w 0 0x800 0x8\nw 0 0x1060 0x2\nw 0 0x8 0x1\nt 0 3 r 0xfffffffffffff 1 as a\nj a\n",
+        parts: [
+            "section 0 done\nunit 0 0x53 0xffffffff 0x3ffff 0xffff0003\nend\n",
+            "",
             "",
             "",
         ],
