@@ -40,7 +40,8 @@ fn stall_affected(
     writes: &[RegPair],
 ) -> Result<(), PlanError>
     requires { IsValidShape old.now.shape }
-    ensures made { IfOk result (λ _. commands.new.items ≡ commands.old.items ++ stalls old.now writes.now old.now.shape.rrids) }
+    ensures made { IfOk result (λ _.
+        commands.new.items ≡ commands.old.items ++ stalls old.now writes.now old.now.shape.rrids) }
     ensures fault { IfErr result (λ e. e ≡ PlanError.NoMemory) }
 {
     for rrid in 0..old.shape.rrids {
@@ -97,9 +98,11 @@ pub fn narrow(alloc: Global, old: &Policy, new: &Policy, polls: u32) -> Result<P
     requires polls { IsMax polls }
     requires old { IsPolicy old.now }
     requires new { IsPolicy new.now }
-    ensures plan { Plans (plan_refusal old.now new.now) result (narrow_commands (image_of old.now) (image_of new.now) polls) }
+    ensures plan { Plans (plan_refusal old.now new.now) result
+        (narrow_commands (image_of old.now) (image_of new.now) polls) }
     ensures differ { SaysShapesDiffer result ↔ (old.now.shape ≡ new.now.shape → ⊥) }
-    ensures fits { IfOk result (λ p. (old.now.shape ≡ new.now.shape) × (need_refusal old.now ≡ None) × (need_refusal new.now ≡ None)) }
+    ensures fits { IfOk result (λ _. (old.now.shape ≡ new.now.shape)
+        × (need_refusal old.now ≡ None) × (need_refusal new.now ≡ None)) }
     ensures valid { IfOk result (λ p. IsValidSection p.section) }
 {
     match plan_refusal(old, new) {

@@ -26,7 +26,7 @@ fn guarded_write(regs: &mut Regs, write: &RegPair)
 
 /// The registers after an image's writes from reset.
 #[tactic(auto, unfolding(policy_compiler::specs::Laws::registers_after))]
-pub fn registers_after(alloc: Global, image: &Image) -> Result<Regs, NoMemory>
+fn registers_after(alloc: Global, image: &Image) -> Result<Regs, NoMemory>
     requires { IsValidShape image.now.shape }
     ensures { IfOk result (λ regs. regs ≡ registers_after image.now) }
 {
