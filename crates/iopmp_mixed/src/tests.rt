@@ -190,7 +190,7 @@ const ANSWERS: [(&str, &str, &[u32], Status, &str); 6] = [
         UPDATE,
         &[0],
         Status::Usage,
-        "iopmp: usage: iopmp run | compile | plan | live | gen N | soak N\n",
+        "iopmp: usage: iopmp run | compile | plan | live | gen N | soak N | narrow | narrow live\n",
     ),
 ];
 

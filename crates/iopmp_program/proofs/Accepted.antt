@@ -10,12 +10,13 @@ use Rattle.policy_compiler.specs.Needs.{need_refusal}
 use Rattle.policy_compiler.proofs.OnePolicy.{same_policy, no_fault}
 use Rattle.update_planner.specs.Refusals.{plan_refusal}
 use Rattle.iopmp_program.specs.declared.subcommand.Subcommand.{Subcommand}
-use Rattle.iopmp_program.specs.declared.subcommand.Subcommand.TheVariants.{Run, Compile, Plan, Live, Gen, Soak}
+use Rattle.iopmp_program.specs.declared.subcommand.Subcommand.TheVariants.{Run, Compile, Plan, Live, Gen, Soak, Narrow, NarrowLive}
 use Rattle.iopmp_program.specs.declared.refusals.policy_lines.WhichPolicy.{WhichPolicy}
 use Rattle.iopmp_program.specs.declared.refusals.policy_lines.WhichPolicy.TheVariants.{Only, Old, New}
 use Rattle.iopmp_program.specs.PolicyLines.{policy_line, IsNoPolicy}
 use Rattle.iopmp_program.specs.UpdateInputs.{UpdateOf, IsUpdate, IsNoUpdate, update_of}
-use Rattle.iopmp_program.specs.PlanCommand.{plan_section}
+use Rattle.iopmp_program.specs.PlanCommand.{plan_section, IsNotPlanned, CanBePlanned}
+use Rattle.iopmp_program.specs.NarrowCommand.{narrow_section}
 use Rattle.iopmp_program.specs.PlansBeside.{script_beside, CanRun, IsUpdateLine}
 use Rattle.iopmp_program.specs.CommandTables.{IsRefused, IsAccepted}
 
@@ -66,6 +67,15 @@ plan_runs plan line refused u same runs (inr (inr f)) =
     let few = runs.few in
     omega (arith, few, most)
 
+-- two policies with a plan from one to the other have no line
+two_planned : (bytes line : List ℕ) → CanBePlanned bytes → IsNotPlanned bytes line → ⊥
+two_planned bytes line a (inl r) = is_update false bytes line a.update a.stands_for r
+two_planned bytes line a (inr r) =
+    let same : r.update ≡ a.update = same_update false bytes r.update a.update r.stands_for a.stands_for in
+    let fault : plan_refusal a.update.old a.update.new ≡ Some r.is.error = subst (λ x. plan_refusal x.old x.new ≡ Some r.is.error) same r.is.fault in
+    let plans = a.is in
+    cc
+
 -- ---- each command
 
 pub never_refused : (command : Subcommand) (bytes line : List ℕ) → IsAccepted command bytes → IsRefused command bytes line → ⊥
@@ -76,13 +86,11 @@ never_refused Compile bytes line a (inr r) =
     let needs : need_refusal a.policy ≡ Some r.is.error = subst (λ p. need_refusal p ≡ Some r.is.error) same r.is.needs in
     let fits = a.is in
     cc
-never_refused Plan bytes line a (inl r) = is_update false bytes line a.update a.stands_for r
-never_refused Plan bytes line a (inr r) =
-    let same : r.update ≡ a.update = same_update false bytes r.update a.update r.stands_for a.stands_for in
-    let fault : plan_refusal a.update.old a.update.new ≡ Some r.is.error = subst (λ x. plan_refusal x.old x.new ≡ Some r.is.error) same r.is.fault in
-    let plans = a.is in
-    cc
+never_refused Plan bytes line a r = two_planned bytes line a r
 never_refused Live bytes line a (inl r) = is_update true bytes line a.update a.stands_for r
 never_refused Live bytes line a (inr r) = plan_runs plan_section line r.update a.update (same_update true bytes r.update a.update r.stands_for a.stands_for) a.is r.is
 never_refused (Gen number) bytes line a r = absurd r
 never_refused (Soak number) bytes line a r = absurd r
+never_refused Narrow bytes line a r = two_planned bytes line a r
+never_refused NarrowLive bytes line a (inl r) = is_update true bytes line a.update a.stands_for r
+never_refused NarrowLive bytes line a (inr r) = plan_runs narrow_section line r.update a.update (same_update true bytes r.update a.update r.stands_for a.stands_for) a.is r.is

@@ -15,7 +15,7 @@ use Rattle.iopmp_program.specs.declared.status.Status.TheVariants.{Done}
 use Rattle.iopmp_program.specs.declared.answer.Answer.{Answer}
 use Rattle.iopmp_program.specs.declared.answer.NoAnswer.{NoAnswer}
 use Rattle.iopmp_program.specs.declared.answer.NoAnswer.TheVariants.{Refused, NoMemory}
-use Rattle.iopmp_program.specs.declared.subcommand.Subcommand.TheVariants.{Run, Compile, Plan, Live}
+use Rattle.iopmp_program.specs.declared.subcommand.Subcommand.TheVariants.{Run, Compile, Plan, Live, Narrow, NarrowLive}
 use Rattle.iopmp_program.specs.declared.refusals.policy_lines.WhichPolicy.TheVariants.{Only}
 use Rattle.iopmp_program.specs.AnswerForms.{TextOf, ReportOf, GivesOr}
 use Rattle.iopmp_program.specs.ReportedRuns.{IsRun}
@@ -25,6 +25,9 @@ use Rattle.iopmp_program.specs.UpdateInputs.{UpdateOf, IsUpdate, IsReadable, IsN
 use Rattle.iopmp_program.specs.PlanCommand.{plan_section, IsPlanText, Plans}
 use Rattle.iopmp_program.specs.PlansBeside.{script_beside, IsRunBeside, IsUpdateReport, IsUpdateLine}
 use Rattle.iopmp_program.specs.LiveCommand.{IsLiveReport}
+use Rattle.narrow_plans.specs.Laws.{LawNarrow, IsNarrowHistory, IsNarrow}
+use Rattle.iopmp_program.specs.NarrowCommand.{narrow_section}
+use Rattle.iopmp_program.specs.NarrowLiveCommand.{IsNarrowReport}
 use Rattle.iopmp_program.specs.UpdateScripts.{IsPlayedOr}
 use Rattle.iopmp_program.specs.CommandTables.{Answers}
 use Rattle.iopmp_program.proofs.UpdateRefusals.{IsPolicyOr}
@@ -133,3 +136,44 @@ live_answers bytes u (Ok a) is h =
     report_as (λ history text. IsUpdateReport KeepsPolicies (plan_section u) history text u) (IsLiveReport bytes) a.status a.history a.text.items (λ words report. record { update = u; stands_for = is; is = report }) h
 live_answers bytes u (Err (Refused line)) is h = inr (record { update = u; stands_for = is; is = h })
 live_answers bytes u (Err NoMemory) is h = tt
+
+-- ---- narrow
+
+pub no_update_narrowed : (bytes : List ℕ) (e : NoAnswer) → IsUpdateOr false bytes (Err e) → Answers Narrow bytes (Err e)
+no_update_narrowed bytes (Refused line) h = inl h
+no_update_narrowed bytes NoMemory h = tt
+
+pub no_narrow_refused : (bytes : List ℕ) (u : UpdateOf) (e : NoAnswer) → IsUpdate false bytes u
+    → (let r : Result (Vec ℕ Global) NoAnswer = Err e in GivesOr (λ text. IsPlanText (narrow_section u) u text.items) (HasNoPlan u) r) → Answers Narrow bytes (Err e)
+no_narrow_refused bytes u (Refused line) is h = inr (record { update = u; stands_for = is; is = h })
+no_narrow_refused bytes u NoMemory is h = tt
+
+-- ---- narrow live
+
+-- a run of the narrow plan beside the lanes is a narrow history
+narrow_history : (u : UpdateOf) (plan : SectionOf) (history text : List ℕ) → IsReadable u → Plans (narrow_section u) u plan → (run : IsRunBeside plan u history text) → IsNarrowHistory u.old u.new u.polls run.lanes history
+narrow_history u plan history text good p run =
+    let r : IsRun (script_beside (narrow_section u) u run.lanes) history text = subst (λ s. IsRun (script_beside s u run.lanes) history text) p.is run.run in
+    record {
+      old_policy = good.old;
+      new_policy = good.new;
+      shapes = p.shapes;
+      old_fits = p.old_fits;
+      new_fits = p.new_fits;
+      no_writes = run.good.write_nothing;
+      legal = r.legal;
+    }
+
+pub narrow_played : LawNarrow → (u : UpdateOf) (plan : SectionOf) (r : Result Answer NoAnswer) → IsReadable u → Plans (narrow_section u) u plan → IsPlayedOr plan u r → UpdateAnswers IsNarrow (narrow_section u) u r
+narrow_played law u plan r good p h =
+    beside_answers IsNarrow u plan (narrow_section u) r p.is (λ history text run. law u.old u.new u.polls run.lanes history (narrow_history u plan history text good p run)) h
+
+pub no_update_narrow_live : (bytes : List ℕ) (e : NoAnswer) → IsUpdateOr true bytes (Err e) → Answers NarrowLive bytes (Err e)
+no_update_narrow_live bytes (Refused line) h = inl h
+no_update_narrow_live bytes NoMemory h = tt
+
+pub narrow_live_answers : (bytes : List ℕ) (u : UpdateOf) (r : Result Answer NoAnswer) → IsUpdate true bytes u → UpdateAnswers IsNarrow (narrow_section u) u r → Answers NarrowLive bytes r
+narrow_live_answers bytes u (Ok a) is h =
+    report_as (λ history text. IsUpdateReport IsNarrow (narrow_section u) history text u) (IsNarrowReport bytes) a.status a.history a.text.items (λ words report. record { update = u; stands_for = is; is = report }) h
+narrow_live_answers bytes u (Err (Refused line)) is h = inr (record { update = u; stands_for = is; is = h })
+narrow_live_answers bytes u (Err NoMemory) is h = tt

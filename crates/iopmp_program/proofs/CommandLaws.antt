@@ -5,11 +5,13 @@ use Rattle.script_reader.specs.Answers.{reading_of}
 use Rattle.iopmp_program.specs.declared.status.Status.{Status}
 use Rattle.iopmp_program.specs.declared.status.Status.TheVariants.{Done, Usage, BadInput, ReadFault, WriteFault, NoMemory, TooLong}
 use Rattle.iopmp_program.specs.declared.subcommand.Subcommand.{Subcommand}
-use Rattle.iopmp_program.specs.declared.subcommand.Subcommand.TheVariants.{Run, Compile, Plan, Live, Gen, Soak}
+use Rattle.iopmp_program.specs.declared.subcommand.Subcommand.TheVariants.{Run, Compile, Plan, Live, Gen, Soak, Narrow, NarrowLive}
 use Rattle.iopmp_program.specs.RunCommand.{IsReport, IsRefusal}
 use Rattle.iopmp_program.specs.CompileCommand.{IsCompiled, IsNotCompiled}
 use Rattle.iopmp_program.specs.PlanCommand.{IsPlanned, IsNotPlanned}
 use Rattle.iopmp_program.specs.LiveCommand.{IsLiveReport, IsLiveRefusal}
+use Rattle.iopmp_program.specs.NarrowCommand.{IsNarrowed}
+use Rattle.iopmp_program.specs.NarrowLiveCommand.{IsNarrowReport, IsNarrowRefusal}
 use Rattle.iopmp_program.specs.GeneratedScripts.{generated_script}
 use Rattle.iopmp_program.specs.GenCommand.{generated_text}
 use Rattle.iopmp_program.specs.SoakCommand.{IsSoak, IsSoaked}
@@ -62,6 +64,26 @@ live_done source sink (Some words) e = (e.1.0, e.0, e.1.1, e.1.2.1, e.2)
 
 pub live_refused : (source sink : Change) (history : Option (List ℕ)) → EndsCommand Live source sink BadInput history → (history ≡ None) × Answered IsLiveRefusal source sink
 live_refused source sink history e = (e.0, (e.1.1.0, e.1.0, e.1.1.1, e.1.1.2, e.1.2))
+
+-- ---- narrow
+
+pub narrow_done : (source sink : Change) (history : Option (List ℕ)) → EndsCommand Narrow source sink Done history → (history ≡ None) × Answered IsNarrowed source sink
+narrow_done source sink history e = (e.1.2.1, (e.1.0, e.0, e.1.1, e.1.2.2, e.2))
+
+pub narrow_refused : (source sink : Change) (history : Option (List ℕ)) → EndsCommand Narrow source sink BadInput history → (history ≡ None) × Answered IsNotPlanned source sink
+narrow_refused source sink history e = (e.0, (e.1.1.0, e.1.0, e.1.1.1, e.1.1.2, e.1.2))
+
+-- ---- narrow live
+
+-- A legal history of the narrow plan's script was made and told of, an unaffected requester's submissions pass in it,
+-- each verdict is by the policies, and its report was written.
+pub narrow_live_done : (source sink : Change) (history : Option (List ℕ)) → EndsCommand NarrowLive source sink Done history
+    → IsSomeAnd history (λ words. Answered (λ bytes text. IsNarrowReport bytes words text) source sink)
+narrow_live_done source sink None e = absurd e.1.2.1
+narrow_live_done source sink (Some words) e = (e.1.0, e.0, e.1.1, e.1.2.1, e.2)
+
+pub narrow_live_refused : (source sink : Change) (history : Option (List ℕ)) → EndsCommand NarrowLive source sink BadInput history → (history ≡ None) × Answered IsNarrowRefusal source sink
+narrow_live_refused source sink history e = (e.0, (e.1.1.0, e.1.0, e.1.1.1, e.1.1.2, e.1.2))
 
 -- ---- gen
 
@@ -137,6 +159,10 @@ given_accepted Live bytes status (Some words) text g =
     record { update = g.1.update; stands_for = g.1.stands_for; is = record { lanes = g.1.is.lanes; has = g.1.is.has; few = g.1.is.few } }
 given_accepted (Gen number) bytes status history text g = tt
 given_accepted (Soak number) bytes status history text g = tt
+given_accepted Narrow bytes status history text g = record { update = g.2.update; stands_for = g.2.stands_for; is = g.2.is.plans }
+given_accepted NarrowLive bytes status None text g = absurd g.1
+given_accepted NarrowLive bytes status (Some words) text g =
+    record { update = g.1.update; stands_for = g.1.stands_for; is = record { lanes = g.1.is.lanes; has = g.1.is.has; few = g.1.is.few } }
 
 -- The causes of a refusal are exact: where one holds of the bytes, they give no text.
 pub refused_gives_nothing : (command : Subcommand) (bytes line : List ℕ) (status : Status) (history : Option (List ℕ)) (text : List ℕ) → IsRefused command bytes line → Gives command bytes status history text → ⊥

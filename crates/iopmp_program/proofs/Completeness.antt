@@ -4,7 +4,7 @@ use Rattle.std.specs.Io.KnownBytes.{Consumes}
 use Rattle.iopmp_program.specs.declared.status.Status.{Status}
 use Rattle.iopmp_program.specs.declared.status.Status.TheVariants as statuses
 use Rattle.iopmp_program.specs.declared.subcommand.Subcommand.{Subcommand}
-use Rattle.iopmp_program.specs.declared.subcommand.Subcommand.TheVariants.{Run, Compile, Plan, Live, Gen, Soak}
+use Rattle.iopmp_program.specs.declared.subcommand.Subcommand.TheVariants.{Run, Compile, Plan, Live, Gen, Soak, Narrow, NarrowLive}
 use Rattle.iopmp_program.specs.CommandTables.{reads, Gives, IsRefused}
 use Rattle.iopmp_program.specs.CallEndings.{Change, Failed, WasRead, IsFault, EndsCommand, HasAccepted, IsSoundIf, IsSound, IsGood, Completes}
 use Rattle.iopmp_program.proofs.Accepted.{never_refused}
@@ -36,6 +36,8 @@ no_fault Plan source line f ok = accepted_not Plan source f.0 line f.1 ok f.2
 no_fault Live source line f ok = accepted_not Live source f.0 line f.1 ok f.2
 no_fault (Gen number) source line f ok = absurd f.2
 no_fault (Soak number) source line f ok = absurd f.2
+no_fault Narrow source line f ok = accepted_not Narrow source f.0 line f.1 ok f.2
+no_fault NarrowLive source line f ok = accepted_not NarrowLive source f.0 line f.1 ok f.2
 
 not_long : (command : Subcommand) (source : Change) (given : List ℕ) → HasAccepted command source → Consumes source.before source.after given → 4194304 < length given → ⊥
 not_long command source given ok c long = long_not source.before source.after ok.bytes given ok.left ok.few c long
@@ -48,6 +50,8 @@ given_good Plan bytes status history text g = g.0
 given_good Live bytes status history text g = g.0
 given_good (Gen number) bytes status history text g = g.0
 given_good (Soak number) bytes status history text g = g.0
+given_good Narrow bytes status history text g = g.0
+given_good NarrowLive bytes status history text g = g.0
 
 pub completes : (command : Subcommand) (source sink : Change) (status : Status) (history : Option (List ℕ)) → EndsCommand command source sink status history
     → IsSound command source → (Failed sink → ⊥) → IsGood command status ⊎ (status ≡ statuses.NoMemory)

@@ -28,6 +28,9 @@ use Rattle.iopmp_program.specs.GenCommand.{generated_text}
 use Rattle.iopmp_program.specs.UpdateInputs.{UpdateOf, IsReadable}
 use Rattle.iopmp_program.specs.PlanCommand.{plan_section, old_script, Plans}
 use Rattle.iopmp_program.specs.PlansBeside.{IsPlayablePlan}
+use Rattle.iopmp_program.specs.NarrowCommand.{narrow_section}
+use Rattle.narrow_plans.specs.Unaffected.{is_affected, affected}
+use Rattle.narrow_plans.specs.NarrowPlans.{stall_command, narrow_commands}
 use Rattle.iopmp_program.proofs.GeneratedSound.{each_lane, generated_told, formed, few}
 use Rattle.iopmp_program.proofs.ScriptsBeside as beside
 
@@ -142,3 +145,56 @@ plan_read_back u section text good p printed =
     let entries = good.new.shape.valid.entries in
     lane_read_back u (plan_section u) text good (subst (IsPlayablePlan u) p.is (beside.plan_may u section p)) (plan_told (image_of u.old) (image_of u.new) u.polls)
     (plan_events (image_of u.old) (image_of u.new) u.polls (omega arith) (good.polls.few)) printed
+
+-- ---- a narrow plan
+
+stalls_told : (ss : List ℕ) (rest : List Command) → AllByRecursion IsToldWhole rest → AllByRecursion IsToldWhole (map stall_command ss ++ rest)
+stalls_told [] rest h = h
+stalls_told (s ∷ ss) rest h = (tt, stalls_told ss rest h)
+
+narrow_told : (old new : ImageOf) (polls : ℕ) → AllByRecursion IsToldWhole (narrow_commands old new polls)
+unfolding narrow_commands rewrites
+narrow_told old new polls =
+    let last : List Command = Write 0 (index_of Mdstall) 0 ∷ [] in
+    stalls_told (affected old new) _ (tt, rewrites_told new (filter (is_rewritten old new) (range_with_len 0 (index_count new.shape))) last (tt, tt))
+
+stalls_events : (ss : List ℕ) → sum_by most_events (map stall_command ss) ≡ length ss
+stalls_events [] = refl
+stalls_events (s ∷ ss) = omega (arith, sum_by-cons most_events (stall_command s) (map stall_command ss), stalls_events ss)
+
+affected_few : (old new : ImageOf) → length (affected old new) ≤ old.shape.rrids
+unfolding affected
+affected_few old new =
+    let all = range_with_len 0 old.shape.rrids in
+    let e = length-filter (is_affected old new) all in
+    let l = count_by-le-length (is_affected old new) all in
+    omega (arith, e, l, length-range_with_len 0 old.shape.rrids)
+
+narrow_events : (old new : ImageOf) (polls : ℕ) → old.shape.rrids ≤ 64 → new.shape.entries ≤ 1024 → polls ≤ 4096 → sum_by most_events (narrow_commands old new polls) ≤ 65536
+unfolding narrow_commands rewrites
+narrow_events old new polls known entries few =
+    let stall : ℕ = index_of Mdstall in
+    let indices : List ℕ = filter (is_rewritten old new) (range_with_len 0 (index_count new.shape)) in
+    let last : List Command = Write 0 stall 0 ∷ [] in
+    omega (
+      arith,
+      known,
+      entries,
+      few,
+      affected_few old new,
+      sum_by-append most_events (map stall_command (affected old new)) (Until 0 stall 1 0 polls ∷ (map (rewrite new) indices ++ last)),
+      stalls_events (affected old new),
+      sum_by-cons most_events (Until 0 stall 1 0 polls) (map (rewrite new) indices ++ last),
+      sum_by-append most_events (map (rewrite new) indices) last,
+      rewrites_events new indices,
+      rewritten_few old new,
+    )
+
+pub narrow_read_back : (u : UpdateOf) (section : SectionOf) (text : List ℕ) → IsReadable u → Plans (narrow_section u) u section → text ≡ lane_text 1 (narrow_section u) ++ codes "end\n"
+    → reading_of (text_before_end (old_script u) ++ text) ≡ Ok (with_lane (old_script u) (narrow_section u))
+unfolding image_of
+narrow_read_back u section text good p printed =
+    let known = good.old.shape.valid.rrids in
+    let entries = good.new.shape.valid.entries in
+    lane_read_back u (narrow_section u) text good (subst (IsPlayablePlan u) p.is (beside.narrow_may u section p)) (narrow_told (image_of u.old) (image_of u.new) u.polls)
+    (narrow_events (image_of u.old) (image_of u.new) u.polls (omega arith) (omega arith) (good.polls.few)) printed

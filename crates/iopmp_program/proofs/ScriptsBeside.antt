@@ -2,6 +2,7 @@
 use Rattle.std.proofs.Common.{◌≡◌, ℕ, List, [], ◌∷◌, ◌++◌, map, Ok, Err, Result, None, Some, inl, inr, refl, sym, ◌∙◌, subst, arith}
 use Rattle.std.specs.String.{string_bytes}
 use Rattle.std.specs.List.{AllByRecursion}
+use Rattle.event_words.specs.declared.section.Command.{Command}
 use Rattle.event_words.specs.Sections.{SectionOf, NamesUnits}
 use Rattle.script_reader.specs.declared.script.ScriptError.{ScriptError}
 use Rattle.script_reader.specs.declared.script.ScriptError.TheVariants.{BadLine, TooManyEvents}
@@ -20,6 +21,9 @@ use Rattle.iopmp_program.specs.ReportedRuns.{IsRun}
 use Rattle.iopmp_program.specs.FaultLines.{refusal_line}
 use Rattle.iopmp_program.specs.UpdateInputs.{UpdateOf, IsReadable}
 use Rattle.iopmp_program.specs.PlanCommand.{plan_section, Plans}
+use Rattle.narrow_plans.specs.Unaffected.{affected}
+use Rattle.narrow_plans.specs.NarrowPlans.{stall_command, narrow_commands}
+use Rattle.iopmp_program.specs.NarrowCommand.{narrow_section}
 use Rattle.iopmp_program.specs.PlansBeside.{script_beside, IsPlayablePlan, IsRunBeside, NeedsMoreEvents}
 use Rattle.iopmp_program.specs.UpdateScripts.{IsLanesOr, IsAffordable, IsAffordableOr, IsScriptOfUpdate, IsScriptOfUpdateOr, IsPlayedOr}
 use Rattle.iopmp_program.proofs.CommandAnswers.{report_as}
@@ -38,6 +42,14 @@ plan_on_0 : (old new : ImageOf) (polls : ℕ) → AllByRecursion (NamesUnits 1) 
 unfolding plan_commands rewrites
 plan_on_0 old new polls = (omega arith, (omega arith, appended (NamesUnits 1) (rewrites old new) _ (rewrites_on_0 new _) (omega arith, tt)))
 
+stalls_on_0 : (ss : List ℕ) (rest : List Command) → AllByRecursion (NamesUnits 1) rest → AllByRecursion (NamesUnits 1) (map stall_command ss ++ rest)
+stalls_on_0 [] rest h = h
+stalls_on_0 (s ∷ ss) rest h = (omega arith, stalls_on_0 ss rest h)
+
+narrow_on_0 : (old new : ImageOf) (polls : ℕ) → AllByRecursion (NamesUnits 1) (narrow_commands old new polls)
+unfolding narrow_commands rewrites
+narrow_on_0 old new polls = stalls_on_0 (affected old new) _ (omega arith, appended (NamesUnits 1) (rewrites old new) _ (rewrites_on_0 new _) (omega arith, tt))
+
 -- the plan may be played
 pub plan_may : (u : UpdateOf) (plan : SectionOf) → Plans (plan_section u) u plan → IsPlayablePlan u plan
 plan_may u plan p = record {
@@ -45,6 +57,14 @@ plan_may u plan p = record {
   old_fits = p.old_fits;
   valid = p.valid;
   units = subst (λ s. AllByRecursion (NamesUnits 1) s.commands) (sym p.is) (plan_on_0 (image_of u.old) (image_of u.new) u.polls);
+}
+
+pub narrow_may : (u : UpdateOf) (plan : SectionOf) → Plans (narrow_section u) u plan → IsPlayablePlan u plan
+narrow_may u plan p = record {
+  plans = p.plans;
+  old_fits = p.old_fits;
+  valid = p.valid;
+  units = subst (λ s. AllByRecursion (NamesUnits 1) s.commands) (sym p.is) (narrow_on_0 (image_of u.old) (image_of u.new) u.polls);
 }
 
 pub formed : (u : UpdateOf) (plan : SectionOf) (lanes : List SectionOf) → IsReadable u → IsPlayablePlan u plan → AreLiveLanes lanes → IsWellFormedScript (script_beside plan u lanes)

@@ -3,7 +3,7 @@
 use Rattle.std.specs.Prelude.{ℕ, Bool, true, false, List, Option, Result}
 use Rattle.iopmp_program.specs.declared.status.Status.{Status}
 use Rattle.iopmp_program.specs.declared.subcommand.Subcommand.{Subcommand}
-use Rattle.iopmp_program.specs.declared.subcommand.Subcommand.TheVariants.{Run, Compile, Plan, Live, Gen, Soak}
+use Rattle.iopmp_program.specs.declared.subcommand.Subcommand.TheVariants.{Run, Compile, Plan, Live, Gen, Soak, Narrow, NarrowLive}
 use Rattle.iopmp_program.specs.declared.answer.Answer.{Answer}
 use Rattle.iopmp_program.specs.declared.answer.NoAnswer.{NoAnswer}
 use Rattle.iopmp_program.specs.AnswerForms.{TextOf, ReportOf, GivesOr}
@@ -11,6 +11,8 @@ use Rattle.iopmp_program.specs.RunCommand.{IsReport, IsRefusal, StandsForScript}
 use Rattle.iopmp_program.specs.CompileCommand.{IsCompiled, IsNotCompiled, CanBeCompiled}
 use Rattle.iopmp_program.specs.PlanCommand.{IsPlanned, IsNotPlanned, CanBePlanned}
 use Rattle.iopmp_program.specs.LiveCommand.{IsLiveReport, IsLiveRefusal, CanBeRunLive}
+use Rattle.iopmp_program.specs.NarrowCommand.{IsNarrowed}
+use Rattle.iopmp_program.specs.NarrowLiveCommand.{IsNarrowReport, IsNarrowRefusal, CanBeRunNarrow}
 use Rattle.iopmp_program.specs.GenCommand.{IsGenerated}
 use Rattle.iopmp_program.specs.SoakCommand.{IsSoaked}
 
@@ -22,6 +24,8 @@ reads Plan = true
 reads Live = true
 reads (Gen number) = false
 reads (Soak number) = false
+reads Narrow = true
+reads NarrowLive = true
 
 -- For these bytes, or for none where it reads none, the command gives this text, the history that the text tells of,
 -- and this status once it is written.
@@ -32,6 +36,8 @@ Gives Plan bytes = TextOf (IsPlanned bytes)
 Gives Live bytes = ReportOf (IsLiveReport bytes)
 Gives (Gen number) bytes = TextOf (IsGenerated number)
 Gives (Soak number) bytes = ReportOf (IsSoaked number)
+Gives Narrow bytes = TextOf (IsNarrowed bytes)
+Gives NarrowLive bytes = ReportOf (IsNarrowReport bytes)
 
 -- The command refuses these bytes with this line.
 abbrev pub IsRefused : Subcommand → List ℕ → List ℕ → Type 0
@@ -41,6 +47,8 @@ IsRefused Plan bytes line = IsNotPlanned bytes line
 IsRefused Live bytes line = IsLiveRefusal bytes line
 IsRefused (Gen number) bytes line = ⊥
 IsRefused (Soak number) bytes line = ⊥
+IsRefused Narrow bytes line = IsNotPlanned bytes line
+IsRefused NarrowLive bytes line = IsNarrowRefusal bytes line
 
 -- The bytes have none of the command's faults.
 abbrev pub IsAccepted : Subcommand → List ℕ → Type 0
@@ -50,6 +58,8 @@ IsAccepted Plan bytes = CanBePlanned bytes
 IsAccepted Live bytes = CanBeRunLive bytes
 IsAccepted (Gen number) bytes = Unit {0}
 IsAccepted (Soak number) bytes = Unit {0}
+IsAccepted Narrow bytes = CanBePlanned bytes
+IsAccepted NarrowLive bytes = CanBeRunNarrow bytes
 
 -- what a command's function gives for these bytes
 abbrev pub Answers : Subcommand → List ℕ → Result Answer NoAnswer → Type 0

@@ -13,6 +13,8 @@ pub mod UpdateInputs
 pub mod PlanCommand
 pub mod PlansBeside
 pub mod LiveCommand
+pub mod NarrowCommand
+pub mod NarrowLiveCommand
 pub mod UpdateScripts
 pub mod PlayedSections
 pub mod GeneratedScripts

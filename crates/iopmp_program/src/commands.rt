@@ -5,6 +5,8 @@ ghost use Rattle.iopmp_program.specs.CommandTables.{Answers};
 mod compile;
 mod generate;
 mod live;
+mod narrow;
+mod narrow_live;
 mod plan;
 mod run;
 mod soak;
@@ -15,6 +17,8 @@ use checker_workers::Gate;
 use compile::compile_answer;
 use generate::gen_answer;
 use live::live_answer;
+use narrow::narrow_answer;
+use narrow_live::narrow_live_answer;
 use plan::plan_answer;
 use run::run_answer;
 use soak::soak_answer;
@@ -39,5 +43,7 @@ pub fn answer<R: Threads + Sync, G: Gate + Sync>(
         Subcommand::Live => live_answer(rt, alloc, bytes, gate),
         Subcommand::Gen(number) => gen_answer(alloc, number),
         Subcommand::Soak(number) => soak_answer(rt, alloc, number, gate),
+        Subcommand::Narrow => narrow_answer(alloc, bytes),
+        Subcommand::NarrowLive => narrow_live_answer(rt, alloc, bytes, gate),
     }
 }

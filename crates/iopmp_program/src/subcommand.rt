@@ -1,7 +1,7 @@
 // The commands of the program.
 ghost use Rattle.std.specs.Prelude.{◌≡◌, map};
 ghost use Rattle.std.specs.String.{string_bytes};
-ghost use Rattle.iopmp_program.specs.CommandWords.{numbered, command_of};
+ghost use Rattle.iopmp_program.specs.CommandWords.{numbered, two_words, command_of};
 ghost use Rattle.iopmp_program.specs.CommandTables.{reads};
 
 use crate::generated::script_number::script_number;
@@ -21,6 +21,10 @@ pub enum Subcommand {
     Gen(u32),
     /// Runs the generated script of a number and prints a summary of its history.
     Soak(u32),
+    /// Prints the narrow plan from one policy to another, as a lane.
+    Narrow,
+    /// Plays the narrow plan beside lanes and prints the report of the history.
+    NarrowLive,
 }
 
 impl Subcommand {
@@ -29,7 +33,12 @@ impl Subcommand {
         ensures { result ≡ reads self.now }
     {
         match self {
-            Subcommand::Run | Subcommand::Compile | Subcommand::Plan | Subcommand::Live => true,
+            Subcommand::Run
+            | Subcommand::Compile
+            | Subcommand::Plan
+            | Subcommand::Live
+            | Subcommand::Narrow
+            | Subcommand::NarrowLive => true,
             Subcommand::Gen(_) | Subcommand::Soak(_) => false,
         }
     }
@@ -48,6 +57,20 @@ fn numbered(word: &str, number: &str) -> Option<Subcommand>
     None
 }
 
+/// The commands of two words.
+fn two_words(word: &str, next: &str) -> Option<Subcommand>
+    ensures { result ≡ two_words word.now next.now }
+{
+    if word == "narrow" {
+        return if next == "live" {
+            Some(Subcommand::NarrowLive)
+        } else {
+            None
+        };
+    }
+    numbered(word, next)
+}
+
 /// The command that the words after the program's name are, if they are one.
 pub fn command_in(words: &[String]) -> Option<Subcommand>
     ensures { result ≡ command_of (map string_bytes words.now) }
@@ -57,7 +80,8 @@ pub fn command_in(words: &[String]) -> Option<Subcommand>
         [word] if word.as_str() == "compile" => Some(Subcommand::Compile),
         [word] if word.as_str() == "plan" => Some(Subcommand::Plan),
         [word] if word.as_str() == "live" => Some(Subcommand::Live),
-        [word, number] => numbered(word.as_str(), number.as_str()),
+        [word] if word.as_str() == "narrow" => Some(Subcommand::Narrow),
+        [word, next] => two_words(word.as_str(), next.as_str()),
         _ => None,
     }
 }

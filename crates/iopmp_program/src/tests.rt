@@ -14,6 +14,7 @@ mod layers;
 mod limits;
 mod live_updates;
 mod meeting;
+mod narrow_updates;
 mod plans;
 mod rows;
 mod statuses;

@@ -5,6 +5,7 @@ ghost use Rattle.script_reader.specs.UpdateTexts.{update_text_at};
 ghost use Rattle.iopmp_program.specs.PlanLines as lines;
 ghost use Rattle.iopmp_program.specs.UpdateInputs.{IsUpdate, IsReadable, IsNoUpdate, IsMisheaded, HasNoPlan};
 ghost use Rattle.iopmp_program.specs.PlanCommand.{plan_section, Plans};
+ghost use Rattle.iopmp_program.specs.NarrowCommand.{narrow_section};
 ghost use Rattle.iopmp_program.specs.AnswerForms.{HasLine, GivesOr};
 
 use super::policies::policy;
@@ -13,6 +14,7 @@ use crate::memory::NoMemory;
 use crate::refusals::bad_line;
 use crate::refusals::policy_lines::{WhichPolicy, need_line};
 use event_words::Section;
+use narrow_plans::narrow;
 use policy_compiler::Policy;
 use script_reader::{UpdateText, read_update};
 use std::alloc::Global;
@@ -120,6 +122,17 @@ pub fn planned(alloc: Global, update: &Update) -> Result<Section, NoAnswer>
     ensures { GivesOr (Plans (plan_section update.now) update.now) (HasNoPlan update.now) result }
 {
     match plan(alloc, &update.old, &update.new, update.polls) {
+        Ok(Plan { section }) => Ok(section),
+        Err(error) => Err(no_plan(alloc, &error)),
+    }
+}
+
+/// The narrow plan of an update, as a section of commands.
+pub fn narrowed(alloc: Global, update: &Update) -> Result<Section, NoAnswer>
+    requires { IsReadable update.now }
+    ensures { GivesOr (Plans (narrow_section update.now) update.now) (HasNoPlan update.now) result }
+{
+    match narrow(alloc, &update.old, &update.new, update.polls) {
         Ok(Plan { section }) => Ok(section),
         Err(error) => Err(no_plan(alloc, &error)),
     }

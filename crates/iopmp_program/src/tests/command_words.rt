@@ -4,11 +4,13 @@ use crate::tests::split_words;
 use std::test::Fail;
 
 /// Words, and the command that they are, if they are one.
-const WORDS: [(&str, Option<Subcommand>); 21] = [
+const WORDS: [(&str, Option<Subcommand>); 27] = [
     ("run", Some(Subcommand::Run)),
     ("compile", Some(Subcommand::Compile)),
     ("plan", Some(Subcommand::Plan)),
     ("live", Some(Subcommand::Live)),
+    ("narrow", Some(Subcommand::Narrow)),
+    ("narrow live", Some(Subcommand::NarrowLive)),
     ("gen 7", Some(Subcommand::Gen(7))),
     ("gen 0000000007", Some(Subcommand::Gen(7))),
     ("gen 4294967295", Some(Subcommand::Gen(4294967295))),
@@ -19,6 +21,10 @@ const WORDS: [(&str, Option<Subcommand>); 21] = [
     ("Run", None),
     ("run run", None),
     ("plan 7", None),
+    ("narrow run", None),
+    ("plan live", None),
+    ("live narrow", None),
+    ("narrow live live", None),
     ("gen", None),
     ("gen 00000000007", None),
     ("soak 4294967296", None),

@@ -17,7 +17,7 @@ pub struct Accepted {
 }
 
 /// Each command once.
-pub const COMMANDS: [Accepted; 6] = [
+pub const COMMANDS: [Accepted; 8] = [
     Accepted {
         words: "run",
         input: "iopmp 1\nunit rrids 4 domains 3 entries 8 mdcfg 0 k 0 srcmd 0 sps 0 queue 1 transl -\nboot\nr 0 0x8\nlane 1\nr 0 0x8\nend\n",
@@ -38,6 +38,18 @@ pub const COMMANDS: [Accepted; 6] = [
     },
     Accepted {
         words: "live",
+        input: "== old\n[unit]\nrrids = 1\ndomains = 1\nentries = 1\nqueue = 1\n== new\n[unit]\nrrids = 1\ndomains = 1\nentries = 1\nqueue = 1\n== polls 8\n== lanes\nlane 2\nr 0 0x8\nend\n",
+        reads: true,
+        plays: true,
+    },
+    Accepted {
+        words: "narrow",
+        input: "== old\n[unit]\nrrids = 1\ndomains = 1\nentries = 1\nqueue = 1\n== new\n[unit]\nrrids = 1\ndomains = 1\nentries = 1\nqueue = 1\n== polls 8\n",
+        reads: true,
+        plays: false,
+    },
+    Accepted {
+        words: "narrow live",
         input: "== old\n[unit]\nrrids = 1\ndomains = 1\nentries = 1\nqueue = 1\n== new\n[unit]\nrrids = 1\ndomains = 1\nentries = 1\nqueue = 1\n== polls 8\n== lanes\nlane 2\nr 0 0x8\nend\n",
         reads: true,
         plays: true,

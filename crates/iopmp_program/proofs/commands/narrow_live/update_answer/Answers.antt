@@ -1,0 +1,10 @@
+-- The narrow plan may be played, and what it answers is what its run beside the lanes gives.
+use Rattle.iopmp_program.proofs.ScriptsBeside.{narrow_may}
+use Rattle.iopmp_program.proofs.CommandAnswers.{narrow_played}
+use Rattle.iopmp_program.proofs.commands.narrow_live.update_answer.Goals as goal
+
+pub played_beside-requires-clause-plan : goal.played_beside-requires-clause-plan
+played_beside-requires-clause-plan g c κs within = narrow_may c.args.update.now c.in-Ok.plan c.in-Ok.ensures
+
+pub returns : goal.returns
+returns g c = narrow_played c.law_narrow.ensures c.args.update.now c.in-Ok.plan c.played_beside.result c.requires c.in-Ok.ensures c.played_beside.ensures
