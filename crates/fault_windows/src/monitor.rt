@@ -105,8 +105,11 @@ impl UnitFaults {
         requires rrid { rrid ≤ 63 }
         requires kept { IsKept self.old }
         ensures kept { IsKept self.new }
-        ensures seen { (h : History) (k : ℕ) → HasSeenOn h k (unit_of event.now) self.old → IsPlace h k event.now rrid reply.now → HasSeenOn h (suc k) (unit_of event.now) self.new }
-        ensures shown { (h : History) (k : ℕ) → HasSeenOn h k (unit_of event.now) self.old → IsPlace h k event.now rrid reply.now → result ≡ shown_by h k event.now }
+        ensures seen { (h : History) (k : ℕ) → HasSeenOn h k (unit_of event.now) self.old
+            → IsPlace h k event.now rrid reply.now
+            → HasSeenOn h (suc k) (unit_of event.now) self.new }
+        ensures shown { (h : History) (k : ℕ) → HasSeenOn h k (unit_of event.now) self.old
+            → IsPlace h k event.now rrid reply.now → result ≡ shown_by h k event.now }
     {
         match *event {
             Event::RegRead { unit, index, .. } => {
@@ -172,8 +175,10 @@ impl Monitor {
     pub fn step(&mut self, event: &Event, rrid: u8, reply: &Reply) -> Option<Shown>
         requires event { IsValidEvent event.now }
         requires rrid { rrid ≤ 63 }
-        ensures seen { (h : History) (k : ℕ) → HasSeen h k self.old → IsPlace h k event.now rrid reply.now → HasSeen h (suc k) self.new }
-        ensures shown { (h : History) (k : ℕ) → HasSeen h k self.old → IsPlace h k event.now rrid reply.now → result ≡ shown_by h k event.now }
+        ensures seen { (h : History) (k : ℕ) → HasSeen h k self.old
+            → IsPlace h k event.now rrid reply.now → HasSeen h (suc k) self.new }
+        ensures shown { (h : History) (k : ℕ) → HasSeen h k self.old
+            → IsPlace h k event.now rrid reply.now → result ≡ shown_by h k event.now }
     {
         let Some(number) = event.unit() else {
             return None;
