@@ -1,13 +1,12 @@
 // Lanes run on threads of their own.
 ghost use Rattle.std.specs.Prelude.{◌≡◌, ◌≤◌, IfOk, [], ◌∷◌};
-ghost use Rattle.event_words.specs.declared.access.Kind.TheVariants as kinds;
 ghost use Rattle.event_words.specs.declared.section.Command.TheVariants as commands;
 ghost use Rattle.unit_core.specs.Fabrics.{opening};
 ghost use Rattle.checker_workers.specs.declared.lane.LaneEnd.TheVariants as ends;
 ghost use Rattle.checker_workers.specs.Trials.{trial_shape, trial_state};
 
 use crate::{Gate, Lane, LaneEnd, NoMemory, Port, run_lanes};
-use event_words::{Access, Command, Kind, Section, Shape, Stages};
+use event_words::{Command, Section, Shape};
 use shared_log::{Caller, Shared, split};
 use std::alloc::{AllocError, Global};
 use std::sync::atomic::{AtomicU64, Ordering};
@@ -122,128 +121,5 @@ fn lanes_run_beside_each_other(rt: HostRuntime) -> Result<(), Fail> {
     assert!(rt; gate.one.load(Ordering::SeqCst) == 1 && gate.two.load(Ordering::SeqCst) == 1);
     assert!(rt; gate.calls.load(Ordering::SeqCst) == 6);
     assert!(rt; lanes[0].ended() == LaneEnd::Done && lanes[1].ended() == LaneEnd::Done);
-    Ok(())
-}
-
-// How often it was called, and the last step.
-#[derive(Drop)]
-struct Count {
-    calls: AtomicU64,
-    last: AtomicU64,
-}
-
-impl Gate for Count {
-    fn at(&self, _lane: u8, step: u32) {
-        self.calls.fetch_add(1, Ordering::SeqCst);
-        self.last.store(u64::from(step), Ordering::SeqCst);
-    }
-}
-
-fn one_chain(alloc: Global) -> Result<Section, AllocError>
-    ensures { IfOk result (λ section. section ≡ record { commands = commands.Through (record { count = 2; units = 0 ∷ 0 ∷ 0 ∷ 0 ∷ [] }) (record { rrid = 1; kind = kinds.Read; addr = 0; len = 4 }) 2 ∷ []; slots = 0 }) }
-{
-    let access = Access {
-        rrid: 1,
-        kind: Kind::Read,
-        addr: 0,
-        len: 4,
-    };
-    let chain = Command::Through {
-        stages: Stages {
-            count: 2,
-            units: [0; 4],
-        },
-        access,
-        max: 2,
-    };
-    let commands = Vec::from_slice(alloc, &[chain])?;
-    Ok(Section { commands, slots: 0 })
-}
-
-fn sending_lane(alloc: Global, caller: Caller<Fabric>) -> Result<Lane, NoMemory>
-    requires units { caller.first ≡ trial_state }
-    requires left { 6 ≤ caller.left }
-    ensures { IfOk result (λ lane. (lane.ended ≡ ends.Fresh) × (lane.port ≡ caller)) }
-{
-    let Ok(section) = one_chain(alloc) else {
-        return Err(NoMemory);
-    };
-    Lane::new(alloc, section, Port::new(caller))
-}
-
-// The gate hears of a chain's first event, not of the three after it, and of the lane's end.
-#[test]
-fn a_chain_is_told_once(rt: HostRuntime) -> Result<(), Fail> {
-    let alloc: Global = rt.alloc();
-    let Ok(fabric) = replica(alloc) else {
-        panic!(rt; "no memory");
-    };
-    let Ok((shared, first)) = Shared::open(alloc, 1, 6, fabric) else {
-        panic!(rt; "no memory");
-    };
-    let Ok(mut lane) = sending_lane(alloc, first) else {
-        panic!(rt; "no memory");
-    };
-    let gate = Count {
-        calls: AtomicU64::new(0),
-        last: AtomicU64::new(0),
-    };
-    lane.run(&shared, &gate);
-    assert!(rt; gate.calls.load(Ordering::SeqCst) == 2);
-    assert!(rt; gate.last.load(Ordering::SeqCst) == 4);
-    assert!(rt; lane.ended() == LaneEnd::Done);
-    Ok(())
-}
-
-fn one_page(alloc: Global) -> Result<Section, AllocError>
-    ensures { IfOk result (λ section. section ≡ record { commands = commands.Submit 0 (record { rrid = 1; kind = kinds.Read; addr = 0; len = 4096 }) 0 ∷ []; slots = 1 }) }
-{
-    let access = Access {
-        rrid: 1,
-        kind: Kind::Read,
-        addr: 0,
-        len: 4096,
-    };
-    let page = Command::Submit {
-        unit: 0,
-        access,
-        slot: 0,
-    };
-    let commands = Vec::from_slice(alloc, &[page])?;
-    Ok(Section { commands, slots: 1 })
-}
-
-fn page_lane(alloc: Global, caller: Caller<Fabric>) -> Result<Lane, NoMemory>
-    requires units { caller.first ≡ trial_state }
-    requires left { 2 ≤ caller.left }
-    ensures { IfOk result (λ lane. (lane.ended ≡ ends.Fresh) × (lane.port ≡ caller)) }
-{
-    let Ok(section) = one_page(alloc) else {
-        return Err(NoMemory);
-    };
-    Lane::new(alloc, section, Port::new(caller))
-}
-
-// The gate hears of the Aim of a submission by two events, not of its Wide, and of the lane's end.
-#[test]
-fn a_page_is_told_once(rt: HostRuntime) -> Result<(), Fail> {
-    let alloc: Global = rt.alloc();
-    let Ok(fabric) = replica(alloc) else {
-        panic!(rt; "no memory");
-    };
-    let Ok((shared, first)) = Shared::open(alloc, 1, 2, fabric) else {
-        panic!(rt; "no memory");
-    };
-    let Ok(mut lane) = page_lane(alloc, first) else {
-        panic!(rt; "no memory");
-    };
-    let gate = Count {
-        calls: AtomicU64::new(0),
-        last: AtomicU64::new(0),
-    };
-    lane.run(&shared, &gate);
-    assert!(rt; gate.calls.load(Ordering::SeqCst) == 2);
-    assert!(rt; gate.last.load(Ordering::SeqCst) == 2);
-    assert!(rt; lane.ended() == LaneEnd::Done);
     Ok(())
 }
