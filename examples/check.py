@@ -9,6 +9,7 @@ change here. Each input has its partner, and each partner its input:
   NAME.toml    NAME.script  `compile` prints exactly the script, which may have a report too
   NAME.update  NAME.plan    `plan` prints exactly the plan
   NAME.live    NAME.report or NAME.sample, as for scripts, for `live`
+  NAME.faults  NAME.report  `faults` prints exactly the report and the lines of later violations
   NAME.sh      NAME.out     `sh NAME.sh` in its folder, with the program in $IOPMP, prints exactly the output, status 0
 
 In faults/ each NAME.how has the program's words in its first line and the status in its second; the input NAME.in, or
@@ -39,6 +40,7 @@ INPUTS = {
     ".toml": ("compile", (".script",)),
     ".update": ("plan", (".plan",)),
     ".live": ("live", (".report", ".sample")),
+    ".faults": ("faults", (".report",)),
     ".sh": (None, (".out",)),
 }
 # A picture, and the words that draw.py draws it by.

@@ -13,13 +13,20 @@ abbrev pub played_by_word : List ℕ → Lanes
 played_by_word word =
     if bytes_eq word (codes "run") then OfScript
     else (if bytes_eq word (codes "live") then OfUpdate
+    else (if bytes_eq word (codes "faults") then OfScript
+    else Nothing))
+
+abbrev pub played_by_two : List ℕ → List ℕ → Lanes
+played_by_two word next =
+    if bytes_eq word (codes "soak") then Generated
+    else (if bytes_eq word (codes "narrow") then (if bytes_eq next (codes "live") then OfUpdate else Nothing)
     else Nothing)
 
 -- whose lanes are played, by the words of a command
 abbrev pub played : List (List ℕ) → Lanes
 played [] = Nothing
 played (word ∷ []) = played_by_word word
-played (word ∷ number ∷ []) = if bytes_eq word (codes "soak") then Generated else Nothing
+played (word ∷ next ∷ []) = played_by_two word next
 played (word ∷ next ∷ more ∷ others) = Nothing
 
 -- they stand in the input

@@ -1,7 +1,7 @@
 // How many lanes a command plays.
 ghost use Rattle.std.specs.Prelude.{◌≡◌, ◌⊎◌, ◌≤◌, length, map};
 ghost use Rattle.std.specs.String.{string_bytes};
-ghost use Rattle.iopmp_mixed.specs.LaneCounts.{HasScriptLanes, HasUpdateLanes, Counts, are_read, played};
+ghost use Rattle.iopmp_mixed.specs.LaneCounts.{HasScriptLanes, HasUpdateLanes, Counts, are_read, played_by_two, played};
 
 use script_reader::{read_lanes, read_script, read_update};
 use std::alloc::Global;
@@ -33,6 +33,23 @@ impl Lanes {
     }
 }
 
+/// Whose lanes a command of two words plays.
+fn played_by_two(word: &str, next: &str) -> Lanes
+    ensures { result ≡ played_by_two word.now next.now }
+{
+    if word == "soak" {
+        return Lanes::Generated;
+    }
+    if word == "narrow" {
+        return if next == "live" {
+            Lanes::OfUpdate
+        } else {
+            Lanes::Nothing
+        };
+    }
+    Lanes::Nothing
+}
+
 /// Whose lanes are played, by the words after the seed.
 pub fn played(words: &[String]) -> Lanes
     ensures { result ≡ played (map string_bytes words.now) }
@@ -40,7 +57,8 @@ pub fn played(words: &[String]) -> Lanes
     match words {
         [word] if word.as_str() == "run" => Lanes::OfScript,
         [word] if word.as_str() == "live" => Lanes::OfUpdate,
-        [word, _] if word.as_str() == "soak" => Lanes::Generated,
+        [word] if word.as_str() == "faults" => Lanes::OfScript,
+        [word, next] => played_by_two(word.as_str(), next.as_str()),
         _ => Lanes::Nothing,
     }
 }

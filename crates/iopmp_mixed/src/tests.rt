@@ -140,12 +140,14 @@ fn reading_lanes(alloc: Global, lanes: u8) -> Result<String, Fail> {
 
 #[test]
 fn sixteen_lanes_end(rt: HostRuntime) -> Result<(), Fail> {
-    let text = reading_lanes(rt.alloc(), 16)?;
-    let ended = called(&rt, 1, "run", text.into_bytes(), &[])?;
-    assert_eq!(rt; ended.outcome.status, Status::Done);
-    assert!(rt; ended.taken.starts_with("events 48\n".as_bytes()));
-    // a turn for each of its calls, and for each lane's end
-    assert!(rt; ended.report.turns >= 64);
+    for words in ["run", "faults"] {
+        let text = reading_lanes(rt.alloc(), 16)?;
+        let ended = called(&rt, 1, words, text.into_bytes(), &[])?;
+        assert_eq!(rt; ended.outcome.status, Status::Done, "{words}");
+        assert!(rt; ended.taken.starts_with("events 48\n".as_bytes()));
+        // a turn for each of its calls, and for each lane's end
+        assert!(rt; ended.report.turns >= 64, "{words}");
+    }
     Ok(())
 }
 
@@ -190,7 +192,7 @@ const ANSWERS: [(&str, &str, &[u32], Status, &str); 6] = [
         UPDATE,
         &[0],
         Status::Usage,
-        "iopmp: usage: iopmp run | compile | plan | live | gen N | soak N | narrow | narrow live\n",
+        "iopmp: usage: iopmp run | compile | plan | live | gen N | soak N | faults | narrow | narrow live\n",
     ),
 ];
 

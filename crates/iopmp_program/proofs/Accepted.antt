@@ -10,7 +10,7 @@ use Rattle.policy_compiler.specs.Needs.{need_refusal}
 use Rattle.policy_compiler.proofs.OnePolicy.{same_policy, no_fault}
 use Rattle.update_planner.specs.Refusals.{plan_refusal}
 use Rattle.iopmp_program.specs.declared.subcommand.Subcommand.{Subcommand}
-use Rattle.iopmp_program.specs.declared.subcommand.Subcommand.TheVariants.{Run, Compile, Plan, Live, Gen, Soak, Narrow, NarrowLive}
+use Rattle.iopmp_program.specs.declared.subcommand.Subcommand.TheVariants.{Run, Compile, Plan, Live, Gen, Soak, Faults, Narrow, NarrowLive}
 use Rattle.iopmp_program.specs.declared.refusals.policy_lines.WhichPolicy.{WhichPolicy}
 use Rattle.iopmp_program.specs.declared.refusals.policy_lines.WhichPolicy.TheVariants.{Only, Old, New}
 use Rattle.iopmp_program.specs.PolicyLines.{policy_line, IsNoPolicy}
@@ -91,6 +91,7 @@ never_refused Live bytes line a (inl r) = is_update true bytes line a.update a.s
 never_refused Live bytes line a (inr r) = plan_runs plan_section line r.update a.update (same_update true bytes r.update a.update r.stands_for a.stands_for) a.is r.is
 never_refused (Gen number) bytes line a r = absurd r
 never_refused (Soak number) bytes line a r = absurd r
+never_refused Faults bytes line a r = let e = a.1 in let f = r.refused in cc
 never_refused Narrow bytes line a r = two_planned bytes line a r
 never_refused NarrowLive bytes line a (inl r) = is_update true bytes line a.update a.stands_for r
 never_refused NarrowLive bytes line a (inr r) = plan_runs narrow_section line r.update a.update (same_update true bytes r.update a.update r.stands_for a.stands_for) a.is r.is

@@ -15,11 +15,12 @@ use Rattle.iopmp_program.specs.declared.status.Status.TheVariants.{Done}
 use Rattle.iopmp_program.specs.declared.answer.Answer.{Answer}
 use Rattle.iopmp_program.specs.declared.answer.NoAnswer.{NoAnswer}
 use Rattle.iopmp_program.specs.declared.answer.NoAnswer.TheVariants.{Refused, NoMemory}
-use Rattle.iopmp_program.specs.declared.subcommand.Subcommand.TheVariants.{Run, Compile, Plan, Live, Narrow, NarrowLive}
+use Rattle.iopmp_program.specs.declared.subcommand.Subcommand.TheVariants.{Run, Compile, Plan, Live, Faults, Narrow, NarrowLive}
 use Rattle.iopmp_program.specs.declared.refusals.policy_lines.WhichPolicy.TheVariants.{Only}
 use Rattle.iopmp_program.specs.AnswerForms.{TextOf, ReportOf, GivesOr}
 use Rattle.iopmp_program.specs.ReportedRuns.{IsRun}
 use Rattle.iopmp_program.specs.RunCommand.{IsRefusal}
+use Rattle.iopmp_program.specs.FaultsCommand.{IsFaultsRun, IsFaultsReport}
 use Rattle.iopmp_program.specs.CompileCommand.{IsImageText, NeedsMore}
 use Rattle.iopmp_program.specs.UpdateInputs.{UpdateOf, IsUpdate, IsReadable, IsNoUpdate, HasNoPlan}
 use Rattle.iopmp_program.specs.PlanCommand.{plan_section, IsPlanText, Plans}
@@ -58,6 +59,16 @@ printed Is a text e h = (ap (λ (x : Answer). x.status) e, ap (λ (x : Answer). 
 pub run_refused : (bytes : List ℕ) (e : NoAnswer) → (let r : Result ScriptOf NoAnswer = Err e in GivesOr (λ s. reading_of bytes ≡ Ok s) (IsRefusal bytes) r) → Answers Run bytes (Err e)
 run_refused bytes (Refused line) h = h
 run_refused bytes NoMemory h = tt
+
+-- ---- faults
+
+pub faults_refused : (bytes : List ℕ) (e : NoAnswer) → (let r : Result ScriptOf NoAnswer = Err e in GivesOr (λ s. reading_of bytes ≡ Ok s) (IsRefusal bytes) r) → Answers Faults bytes (Err e)
+faults_refused bytes (Refused line) h = h
+faults_refused bytes NoMemory h = tt
+
+pub faults_reported : (bytes : List ℕ) (script : ScriptOf) (a : Answer) → reading_of bytes ≡ Ok script → ReportOf (IsFaultsRun script) a.status a.history a.text.items → Answers Faults bytes (Ok a)
+faults_reported bytes script a is h =
+    report_as (IsFaultsRun script) (IsFaultsReport bytes) a.status a.history a.text.items (λ words run. record { script = script; stands_for = is; run = run }) h
 
 -- ---- compile
 

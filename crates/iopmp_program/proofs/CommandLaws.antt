@@ -5,7 +5,7 @@ use Rattle.script_reader.specs.Answers.{reading_of}
 use Rattle.iopmp_program.specs.declared.status.Status.{Status}
 use Rattle.iopmp_program.specs.declared.status.Status.TheVariants.{Done, Usage, BadInput, ReadFault, WriteFault, NoMemory, TooLong}
 use Rattle.iopmp_program.specs.declared.subcommand.Subcommand.{Subcommand}
-use Rattle.iopmp_program.specs.declared.subcommand.Subcommand.TheVariants.{Run, Compile, Plan, Live, Gen, Soak, Narrow, NarrowLive}
+use Rattle.iopmp_program.specs.declared.subcommand.Subcommand.TheVariants.{Run, Compile, Plan, Live, Gen, Soak, Faults, Narrow, NarrowLive}
 use Rattle.iopmp_program.specs.RunCommand.{IsReport, IsRefusal}
 use Rattle.iopmp_program.specs.CompileCommand.{IsCompiled, IsNotCompiled}
 use Rattle.iopmp_program.specs.PlanCommand.{IsPlanned, IsNotPlanned}
@@ -16,6 +16,7 @@ use Rattle.iopmp_program.specs.GeneratedScripts.{generated_script}
 use Rattle.iopmp_program.specs.GenCommand.{generated_text}
 use Rattle.iopmp_program.specs.SoakCommand.{IsSoak, IsSoaked}
 use Rattle.iopmp_program.specs.Summaries.{soak_text}
+use Rattle.iopmp_program.specs.FaultsCommand.{IsFaultsReport}
 use Rattle.iopmp_program.specs.CommandTables.{Gives, IsRefused, IsAccepted}
 use Rattle.iopmp_program.specs.CallEndings.{Change, WasRead, WasWritten, PrefixWritten, IsText, EndsCommand}
 use Rattle.iopmp_program.proofs.Accepted.{never_refused}
@@ -64,6 +65,18 @@ live_done source sink (Some words) e = (e.1.0, e.0, e.1.1, e.1.2.1, e.2)
 
 pub live_refused : (source sink : Change) (history : Option (List ℕ)) → EndsCommand Live source sink BadInput history → (history ≡ None) × Answered IsLiveRefusal source sink
 live_refused source sink history e = (e.0, (e.1.1.0, e.1.0, e.1.1.1, e.1.1.2, e.1.2))
+
+-- ---- faults
+
+-- A legal history of the script was made and told of. What was written is its report without the last line, and
+-- what its readings of the windows show and leave.
+pub faults_done : (source sink : Change) (history : Option (List ℕ)) → EndsCommand Faults source sink Done history
+    → IsSomeAnd history (λ words. Answered (λ bytes text. IsFaultsReport bytes words text) source sink)
+faults_done source sink None e = absurd e.1.2.1
+faults_done source sink (Some words) e = (e.1.0, e.0, e.1.1, e.1.2.1, e.2)
+
+pub faults_refused : (source sink : Change) (history : Option (List ℕ)) → EndsCommand Faults source sink BadInput history → (history ≡ None) × Answered IsRefusal source sink
+faults_refused source sink history e = (e.0, (e.1.1.0, e.1.0, e.1.1.1, e.1.1.2, e.1.2))
 
 -- ---- narrow
 
@@ -159,6 +172,8 @@ given_accepted Live bytes status (Some words) text g =
     record { update = g.1.update; stands_for = g.1.stands_for; is = record { lanes = g.1.is.lanes; has = g.1.is.has; few = g.1.is.few } }
 given_accepted (Gen number) bytes status history text g = tt
 given_accepted (Soak number) bytes status history text g = tt
+given_accepted Faults bytes status None text g = absurd g.1
+given_accepted Faults bytes status (Some words) text g = (g.1.script, g.1.stands_for)
 given_accepted Narrow bytes status history text g = record { update = g.2.update; stands_for = g.2.stands_for; is = g.2.is.plans }
 given_accepted NarrowLive bytes status None text g = absurd g.1
 given_accepted NarrowLive bytes status (Some words) text g =

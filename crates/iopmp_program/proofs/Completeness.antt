@@ -4,7 +4,7 @@ use Rattle.std.specs.Io.KnownBytes.{Consumes}
 use Rattle.iopmp_program.specs.declared.status.Status.{Status}
 use Rattle.iopmp_program.specs.declared.status.Status.TheVariants as statuses
 use Rattle.iopmp_program.specs.declared.subcommand.Subcommand.{Subcommand}
-use Rattle.iopmp_program.specs.declared.subcommand.Subcommand.TheVariants.{Run, Compile, Plan, Live, Gen, Soak, Narrow, NarrowLive}
+use Rattle.iopmp_program.specs.declared.subcommand.Subcommand.TheVariants.{Run, Compile, Plan, Live, Gen, Soak, Faults, Narrow, NarrowLive}
 use Rattle.iopmp_program.specs.CommandTables.{reads, Gives, IsRefused}
 use Rattle.iopmp_program.specs.CallEndings.{Change, Failed, WasRead, IsFault, EndsCommand, HasAccepted, IsSoundIf, IsSound, IsGood, Completes}
 use Rattle.iopmp_program.proofs.Accepted.{never_refused}
@@ -36,6 +36,7 @@ no_fault Plan source line f ok = accepted_not Plan source f.0 line f.1 ok f.2
 no_fault Live source line f ok = accepted_not Live source f.0 line f.1 ok f.2
 no_fault (Gen number) source line f ok = absurd f.2
 no_fault (Soak number) source line f ok = absurd f.2
+no_fault Faults source line f ok = accepted_not Faults source f.0 line f.1 ok f.2
 no_fault Narrow source line f ok = accepted_not Narrow source f.0 line f.1 ok f.2
 no_fault NarrowLive source line f ok = accepted_not NarrowLive source f.0 line f.1 ok f.2
 
@@ -50,6 +51,7 @@ given_good Plan bytes status history text g = g.0
 given_good Live bytes status history text g = g.0
 given_good (Gen number) bytes status history text g = g.0
 given_good (Soak number) bytes status history text g = g.0
+given_good Faults bytes status history text g = g.0
 given_good Narrow bytes status history text g = g.0
 given_good NarrowLive bytes status history text g = g.0
 

@@ -18,3 +18,7 @@ pub mod HistoryLengths
 pub mod SoakCounts
 pub mod SectionCursors
 pub mod OnePass
+pub mod WindowPlaces
+pub mod LeftLines
+mod WindowRows
+pub mod ToldRuns

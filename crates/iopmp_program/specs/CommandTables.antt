@@ -3,7 +3,7 @@
 use Rattle.std.specs.Prelude.{ℕ, Bool, true, false, List, Option, Result}
 use Rattle.iopmp_program.specs.declared.status.Status.{Status}
 use Rattle.iopmp_program.specs.declared.subcommand.Subcommand.{Subcommand}
-use Rattle.iopmp_program.specs.declared.subcommand.Subcommand.TheVariants.{Run, Compile, Plan, Live, Gen, Soak, Narrow, NarrowLive}
+use Rattle.iopmp_program.specs.declared.subcommand.Subcommand.TheVariants.{Run, Compile, Plan, Live, Gen, Soak, Faults, Narrow, NarrowLive}
 use Rattle.iopmp_program.specs.declared.answer.Answer.{Answer}
 use Rattle.iopmp_program.specs.declared.answer.NoAnswer.{NoAnswer}
 use Rattle.iopmp_program.specs.AnswerForms.{TextOf, ReportOf, GivesOr}
@@ -15,6 +15,7 @@ use Rattle.iopmp_program.specs.NarrowCommand.{IsNarrowed}
 use Rattle.iopmp_program.specs.NarrowLiveCommand.{IsNarrowReport, IsNarrowRefusal, CanBeRunNarrow}
 use Rattle.iopmp_program.specs.GenCommand.{IsGenerated}
 use Rattle.iopmp_program.specs.SoakCommand.{IsSoaked}
+use Rattle.iopmp_program.specs.FaultsCommand.{IsFaultsReport}
 
 -- whether the command reads its input
 abbrev pub reads : Subcommand → Bool
@@ -24,6 +25,7 @@ reads Plan = true
 reads Live = true
 reads (Gen number) = false
 reads (Soak number) = false
+reads Faults = true
 reads Narrow = true
 reads NarrowLive = true
 
@@ -36,6 +38,7 @@ Gives Plan bytes = TextOf (IsPlanned bytes)
 Gives Live bytes = ReportOf (IsLiveReport bytes)
 Gives (Gen number) bytes = TextOf (IsGenerated number)
 Gives (Soak number) bytes = ReportOf (IsSoaked number)
+Gives Faults bytes = ReportOf (IsFaultsReport bytes)
 Gives Narrow bytes = TextOf (IsNarrowed bytes)
 Gives NarrowLive bytes = ReportOf (IsNarrowReport bytes)
 
@@ -47,6 +50,7 @@ IsRefused Plan bytes line = IsNotPlanned bytes line
 IsRefused Live bytes line = IsLiveRefusal bytes line
 IsRefused (Gen number) bytes line = ⊥
 IsRefused (Soak number) bytes line = ⊥
+IsRefused Faults bytes line = IsRefusal bytes line
 IsRefused Narrow bytes line = IsNotPlanned bytes line
 IsRefused NarrowLive bytes line = IsNarrowRefusal bytes line
 
@@ -58,6 +62,7 @@ IsAccepted Plan bytes = CanBePlanned bytes
 IsAccepted Live bytes = CanBeRunLive bytes
 IsAccepted (Gen number) bytes = Unit {0}
 IsAccepted (Soak number) bytes = Unit {0}
+IsAccepted Faults bytes = StandsForScript bytes
 IsAccepted Narrow bytes = CanBePlanned bytes
 IsAccepted NarrowLive bytes = CanBeRunNarrow bytes
 

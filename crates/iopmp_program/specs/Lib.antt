@@ -6,6 +6,9 @@ pub mod FaultLines
 pub mod AnswerForms
 pub mod ReportedRuns
 pub mod RunCommand
+pub mod Requesters
+pub mod WindowLines
+pub mod FaultsCommand
 pub mod PolicyLines
 pub mod CompileCommand
 pub mod PlanLines

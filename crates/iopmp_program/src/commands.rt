@@ -3,6 +3,7 @@ ghost use Rattle.std.specs.Prelude.{◌≤◌, length};
 ghost use Rattle.iopmp_program.specs.CommandTables.{Answers};
 
 mod compile;
+mod faults;
 mod generate;
 mod live;
 mod narrow;
@@ -15,6 +16,7 @@ use crate::answer::{Answer, NoAnswer};
 use crate::subcommand::Subcommand;
 use checker_workers::Gate;
 use compile::compile_answer;
+use faults::faults_answer;
 use generate::gen_answer;
 use live::live_answer;
 use narrow::narrow_answer;
@@ -43,6 +45,7 @@ pub fn answer<R: Threads + Sync, G: Gate + Sync>(
         Subcommand::Live => live_answer(rt, alloc, bytes, gate),
         Subcommand::Gen(number) => gen_answer(alloc, number),
         Subcommand::Soak(number) => soak_answer(rt, alloc, number, gate),
+        Subcommand::Faults => faults_answer(rt, alloc, bytes, gate),
         Subcommand::Narrow => narrow_answer(alloc, bytes),
         Subcommand::NarrowLive => narrow_live_answer(rt, alloc, bytes, gate),
     }

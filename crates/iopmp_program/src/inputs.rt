@@ -1,4 +1,5 @@
-// What an input of policies stands for, or the refusal of it.
+// What an input of a script or of policies stands for, or the refusal of it.
 
 pub mod policies;
+pub mod script;
 pub mod update;

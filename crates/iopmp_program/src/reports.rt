@@ -3,22 +3,26 @@ ghost use Rattle.std.specs.Prelude.{◌≡◌, ◌++◌, ◌+◌, ◌*◌, ◌<�
 ghost use Rattle.std.specs.Fmt.{decimal};
 ghost use Rattle.std.specs.List.{AllByRecursion};
 ghost use Rattle.event_words.specs.Valid.{IsValidShape};
-ghost use Rattle.event_words.specs.Runs.{logged_from, run_from};
+ghost use Rattle.event_words.specs.Runs.{IsEventWord, logged_from, run_from};
 ghost use Rattle.unit_core.specs.Fabrics.{state_after_word, reply_to_word};
 ghost use Rattle.unit_core.specs.Reports.{event_line, section_lines, unit_lines, report_text};
 ghost use Rattle.iopmp_program.specs.Replays.{unit_line_of};
 ghost use Rattle.iopmp_program.specs.SectionEnds.{cursor_ends, end_lines};
+ghost use Rattle.iopmp_program.specs.FaultsCommand.{IsFaultsText};
 
 mod cursors;
 pub mod replay;
+mod windows;
 
 use crate::memory::NoMemory;
 use cursors::{note, push_ends, section_cursors};
 use event_words::{Line, LoggedEvent, Machine, Section, unpack};
+use replay::replay_words;
 use script_reader::Script;
 use section_cursor::Cursor;
 use std::alloc::{AllocError, Global};
 use unit_core::Fabric;
+use windows::push_windows;
 
 /// Makes the line of an event.
 fn put_event_line(line: &mut Line, logged: &LoggedEvent)
@@ -180,17 +184,13 @@ fn push_count(out: &mut Vec<u8>, line: &mut Line, count: usize) -> Result<(), Al
     out.extend_from_slice(line.bytes())
 }
 
-/// The report of a history of the script: every event with its reply, how each section ended, and
-/// each unit's error registers after the last event.
-///
-/// The script has 1 to 4 valid shapes and at most 16 lanes. A legal history of a script that needs at
-/// most 1048576 events has no more words than that.
-pub fn report(alloc: Global, script: &Script, words: &[u64]) -> Result<Vec<u8>, NoMemory>
+/// The lines of the report but the last, which is `end`.
+fn report_body(alloc: Global, script: &Script, words: &[u64]) -> Result<Vec<u8>, NoMemory>
     requires count { (1 ≤ length script.now.shapes) × (length script.now.shapes ≤ 4) }
     requires shapes { AllByRecursion IsValidShape script.now.shapes }
     requires lanes { length script.now.lanes ≤ 16 }
     requires few { length words.now ≤ 1048576 }
-    ensures { IfOk result (λ text. text.items ≡
+    ensures { IfOk result (λ body. body.items ++ codes "end\n" ≡
         report_text script.now.shapes script.now.boot script.now.lanes words.now) }
 {
     let count = words.len();
@@ -208,6 +208,46 @@ pub fn report(alloc: Global, script: &Script, words: &[u64]) -> Result<Vec<u8>, 
         words,
     )?;
     push_units(&mut out, &mut line, &units)?;
+    Ok(out)
+}
+
+/// The report of a history of the script: every event with its reply, how each section ended, and
+/// each unit's error registers after the last event.
+///
+/// The script has 1 to 4 valid shapes and at most 16 lanes. A legal history of a script that needs at
+/// most 1048576 events has no more words than that.
+pub fn report(alloc: Global, script: &Script, words: &[u64]) -> Result<Vec<u8>, NoMemory>
+    requires count { (1 ≤ length script.now.shapes) × (length script.now.shapes ≤ 4) }
+    requires shapes { AllByRecursion IsValidShape script.now.shapes }
+    requires lanes { length script.now.lanes ≤ 16 }
+    requires few { length words.now ≤ 1048576 }
+    ensures { IfOk result (λ text. text.items ≡
+        report_text script.now.shapes script.now.boot script.now.lanes words.now) }
+{
+    let mut out = report_body(alloc, script, words)?;
     out.extend_from_slice(b"end\n")?;
+    Ok(out)
+}
+
+/// The report without its last line, and after it what each reading of register 0x74 shows, how many requesters
+/// of each unit are left pending, and `end`. The conditions are those of `report`, and the words are a history's.
+pub fn faults_report(alloc: Global, script: &Script, words: &[u64]) -> Result<Vec<u8>, NoMemory>
+    requires count { (1 ≤ length script.now.shapes) × (length script.now.shapes ≤ 4) }
+    requires shapes { AllByRecursion IsValidShape script.now.shapes }
+    requires lanes { length script.now.lanes ≤ 16 }
+    requires few { length words.now ≤ 1048576 }
+    requires words { AllByRecursion IsEventWord words.now }
+    ensures { IfOk result (λ text. IsFaultsText script.now words.now
+        (report_text script.now.shapes script.now.boot script.now.lanes words.now) text.items) }
+{
+    let mut out = report_body(alloc, script, words)?;
+    let replay = replay_words(alloc, &script.shapes, words)?;
+    let mut line = Line::new();
+    push_windows(
+        &mut out,
+        &mut line,
+        script.shapes.len() as u8,
+        &replay.events,
+    )?;
     Ok(out)
 }

@@ -21,6 +21,8 @@ pub enum Subcommand {
     Gen(u32),
     /// Runs the generated script of a number and prints a summary of its history.
     Soak(u32),
+    /// Plays a script and prints its report with the windows of later violations.
+    Faults,
     /// Prints the narrow plan from one policy to another, as a lane.
     Narrow,
     /// Plays the narrow plan beside lanes and prints the report of the history.
@@ -37,6 +39,7 @@ impl Subcommand {
             | Subcommand::Compile
             | Subcommand::Plan
             | Subcommand::Live
+            | Subcommand::Faults
             | Subcommand::Narrow
             | Subcommand::NarrowLive => true,
             Subcommand::Gen(_) | Subcommand::Soak(_) => false,
@@ -80,6 +83,7 @@ pub fn command_in(words: &[String]) -> Option<Subcommand>
         [word] if word.as_str() == "compile" => Some(Subcommand::Compile),
         [word] if word.as_str() == "plan" => Some(Subcommand::Plan),
         [word] if word.as_str() == "live" => Some(Subcommand::Live),
+        [word] if word.as_str() == "faults" => Some(Subcommand::Faults),
         [word] if word.as_str() == "narrow" => Some(Subcommand::Narrow),
         [word, next] => two_words(word.as_str(), next.as_str()),
         _ => None,

@@ -10,6 +10,7 @@ mod generated_scripts;
 mod handed_pieces;
 mod images;
 mod lanes_beside;
+mod later_violations;
 mod layers;
 mod limits;
 mod live_updates;

@@ -4,7 +4,7 @@ use crate::tests::split_words;
 use std::test::Fail;
 
 /// Words, and the command that they are, if they are one.
-const WORDS: [(&str, Option<Subcommand>); 27] = [
+const WORDS: [(&str, Option<Subcommand>); 30] = [
     ("run", Some(Subcommand::Run)),
     ("compile", Some(Subcommand::Compile)),
     ("plan", Some(Subcommand::Plan)),
@@ -17,8 +17,11 @@ const WORDS: [(&str, Option<Subcommand>); 27] = [
     ("soak 7", Some(Subcommand::Soak(7))),
     ("soak 0000000007", Some(Subcommand::Soak(7))),
     ("soak 4294967295", Some(Subcommand::Soak(4294967295))),
+    ("faults", Some(Subcommand::Faults)),
     ("", None),
     ("Run", None),
+    ("fault", None),
+    ("faults 7", None),
     ("run run", None),
     ("plan 7", None),
     ("narrow run", None),

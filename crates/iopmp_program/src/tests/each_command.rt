@@ -17,7 +17,7 @@ pub struct Accepted {
 }
 
 /// Each command once.
-pub const COMMANDS: [Accepted; 8] = [
+pub const COMMANDS: [Accepted; 9] = [
     Accepted {
         words: "run",
         input: "iopmp 1\nunit rrids 4 domains 3 entries 8 mdcfg 0 k 0 srcmd 0 sps 0 queue 1 transl -\nboot\nr 0 0x8\nlane 1\nr 0 0x8\nend\n",
@@ -64,6 +64,12 @@ pub const COMMANDS: [Accepted; 8] = [
         words: "soak 0",
         input: "",
         reads: false,
+        plays: true,
+    },
+    Accepted {
+        words: "faults",
+        input: "iopmp 1\nunit rrids 4 domains 3 entries 8 mdcfg 0 k 0 srcmd 0 sps 0 queue 1 transl -\nboot\nr 0 0x74\nlane 1\nr 0 0x74\nend\n",
+        reads: true,
         plays: true,
     },
 ];

@@ -131,16 +131,18 @@ fn lanes_run_beside_each_other(rt: HostRuntime) -> Result<(), Fail> {
         "iopmp 1\n{UNIT}\nboot\nlane 1\nr 0 0x8\nr 0 0x8\nlane 2\nr 0 0x8\nr 0 0x8\nend\n"
     )?;
     let bytes = text.as_bytes();
-    let gate = Meeting::new();
-    let ended = called(&rt, "run", bytes, NONE, &gate)?;
-    assert_eq!(rt; ended.outcome.status, Status::Done);
-    assert!(rt; gate.took_place());
-    assert!(rt;
-        has(
-            &ended.taken,
-            b"section 0 done\nsection 1 done\nsection 2 done\n"
-        )
-    );
+    for words in ["run", "faults"] {
+        let gate = Meeting::new();
+        let ended = called(&rt, words, bytes, NONE, &gate)?;
+        assert_eq!(rt; ended.outcome.status, Status::Done, "{words}");
+        assert!(rt; gate.took_place(), "{words}");
+        assert!(rt;
+            has(
+                &ended.taken,
+                b"section 0 done\nsection 1 done\nsection 2 done\n"
+            )
+        );
+    }
     assert!(rt; bytes.len() <= 4194304);
     let Ok(script) = read_script(alloc, bytes) else {
         return Err(Fail::new("no script"));

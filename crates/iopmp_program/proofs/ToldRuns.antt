@@ -1,0 +1,38 @@
+-- A legal history is one run of its script, and its text tells of it.
+use Rattle.std.proofs.Common.{◌≡◌, ℕ, ◌∙◌, List, refl, sym, subst}
+use Rattle.std.specs.List.{AllByRecursion}
+use Rattle.std.proofs.lemmas.List.Elements.{All-from_recursion}
+use Rattle.event_words.specs.Valid.{IsValidShape, IsValidEvent}
+use Rattle.script_reader.specs.Scripts.{ScriptOf}
+use Rattle.unit_core.specs.Histories.{IsLegalHistory, history_of, events_of_words}
+use Rattle.unit_core.specs.Reports.{report_text}
+use Rattle.history_laws.specs.Laws.{LawKept}
+use Rattle.history_laws.specs.OneHistory.{LawOneHistory}
+use Rattle.history_laws.specs.EqualReports.{LawReports}
+use Rattle.fault_windows.specs.Laws.{LawFaults}
+use Rattle.iopmp_program.specs.ReportedRuns.{IsRun}
+use Rattle.iopmp_program.specs.FaultsCommand.{IsFaultsText, IsFaultsRun}
+use Rattle.iopmp_program.proofs.NoCommands.{one_history}
+use Rattle.iopmp_program.proofs.WindowPlaces.{all_valid}
+
+abbrev pub report_of : ScriptOf → List ℕ → List ℕ
+report_of script history = report_text script.shapes script.boot script.lanes history
+
+pub is_run : LawKept → LawOneHistory → LawReports → (script : ScriptOf) (history text : List ℕ) → AllByRecursion IsValidShape script.shapes → IsLegalHistory script.shapes script.boot script.lanes history
+    → text ≡ report_of script history → IsRun script history text
+is_run kept one reports script history text shapes legal printed = record {
+  legal = legal;
+  laws = kept (history_of script.shapes history) (All-from_recursion IsValidShape script.shapes shapes);
+  only = λ none other others. one_history one script.shapes script.boot script.lanes other history none others legal;
+  printed = printed;
+  told = λ other others same. reports script.shapes script.boot script.lanes other history others.events legal.events (sym same ∙ printed);
+}
+
+pub is_faults_run : LawKept → LawOneHistory → LawReports → LawFaults → (script : ScriptOf) (history words text : List ℕ) → AllByRecursion IsValidShape script.shapes → IsLegalHistory script.shapes script.boot script.lanes history
+    → words ≡ history → IsFaultsText script words (report_of script words) text → IsFaultsRun script history text
+is_faults_run kept one reports faults script history words text shapes legal same is = record {
+  report = report_of script history;
+  run = is_run kept one reports script history (report_of script history) shapes legal refl;
+  faults = subst (λ ws. IsFaultsText script ws (report_of script ws) text) same is;
+  late = faults (history_of script.shapes history) (All-from_recursion IsValidShape script.shapes shapes) (All-from_recursion IsValidEvent (events_of_words history) (all_valid history legal.events));
+}

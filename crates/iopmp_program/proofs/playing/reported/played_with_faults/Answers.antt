@@ -1,0 +1,18 @@
+-- The history is legal, and the text has its report and its late violations.
+use Rattle.std.proofs.Common.{sym, subst}
+use Rattle.std.specs.List.{AllByRecursion}
+use Rattle.event_words.specs.Runs.{IsEventWord}
+use Rattle.iopmp_program.specs.FaultsCommand.{IsFaultsRun}
+use Rattle.iopmp_program.proofs.CommandAnswers.{told}
+use Rattle.iopmp_program.proofs.ToldRuns.{is_faults_run}
+use Rattle.iopmp_program.proofs.playing.reported.played_with_faults.Goals as goal
+
+pub faults_report-requires-clause-words : goal.faults_report-requires-clause-words
+faults_report-requires-clause-words g c = subst (AllByRecursion IsEventWord) (sym c.words.ensures) c.in_ok-history.ensures.legal.events
+
+pub returns : goal.returns
+returns g c =
+    let script = c.args.script.now in
+    let history = c.in_ok-history.history in
+    told (IsFaultsRun script) c.report_answer.result history c.in_ok-text.text c.report_answer.ensures
+    (is_faults_run c.law_kept.ensures c.law_one_history.ensures c.law_reports.ensures c.law_faults.ensures script history c.words.result.now c.in_ok-text.text.items c.requires.formed.shapes c.in_ok-history.ensures.legal c.words.ensures c.in_ok-text.ensures)
