@@ -10,10 +10,14 @@ change here. Each input has its partner, and each partner its input:
   NAME.update  NAME.plan    `plan` prints exactly the plan
   NAME.live    NAME.report or NAME.sample, as for scripts, for `live`
   NAME.faults  NAME.report  `faults` prints exactly the report and the lines of later violations
+  NAME.audit   NAME.answer  `audit` prints exactly the answer, with status 0
   NAME.sh      NAME.out     `sh NAME.sh` in its folder, with the program in $IOPMP, prints exactly the output, status 0
 
 In faults/ each NAME.how has the program's words in its first line and the status in its second; the input NAME.in, or
 none, gets exactly NAME.out. docs/FAULTS.md names each in backquotes, and has the line of each.
+
+Each report and each sample, and the report of now beside a sample, is audited and has to be legal. audits.py changes one
+byte of the reports in CHANGED, and the program has to name a line that isn't behind it.
 
 Then quotes.py compares what the pages quote, and each picture in PICTURES is drawn again. The last line counts; the
 status is 0 where nothing failed.
@@ -27,6 +31,7 @@ import sys
 from pathlib import Path
 
 sys.dont_write_bytecode = True
+import audits
 import draw
 import history
 import quotes
@@ -41,8 +46,11 @@ INPUTS = {
     ".update": ("plan", (".plan",)),
     ".live": ("live", (".report", ".sample")),
     ".faults": ("faults", (".report",)),
+    ".audit": ("audit", (".answer",)),
     ".sh": (None, (".out",)),
 }
+# Inputs whose reports are changed in one byte and audited, and how often.
+CHANGED = {"examples/update_under_traffic.script": 60, "examples/aimed_between.script": 20, "examples/first_access.script": 20}
 # A picture, and the words that draw.py draws it by.
 PICTURES = {"docs/live_update.svg": ["examples/seeds/page_opens.193.report"]}
 LIMIT = 300
@@ -120,6 +128,7 @@ def one_of_many(checks, word, path, sample):
     for name, report in ((f"a report of now of {path}", now.decode()), (sample, sample.read_text())):
         wrong, line = history.judge(script, report)
         checks.check(not wrong, f"{name}: {wrong}")
+        audits.legal(checks, program, name, script.encode(), report.encode())
         print(f"{name}: {line}", flush=True)
     for report in spoilt(sample.read_text()):
         checks.check(history.judge(script, report)[0], f"{sample}: history.py takes it spoilt")
@@ -148,6 +157,16 @@ def example(checks, path):
         status, got = program([word], path.read_bytes())
         checks.check(status == 0, f"{path}: status {status}")
         checks.same(path, got, found[0])
+        if found[0].suffix == ".report" and word == "run":
+            audits.legal(checks, program, path, path.read_bytes(), got)
+
+
+def changes(checks):
+    """Reports that are changed in one byte."""
+    for name, count in CHANGED.items():
+        path = Path(name)
+        if path.is_file():
+            audits.changed(checks, program, name, path.read_bytes(), program(["run"], path.read_bytes())[1], count)
 
 
 def examples(checks, folder):
@@ -158,7 +177,7 @@ def examples(checks, folder):
     for path in inputs:
         example(checks, path)
     partners = {ending: [it for it, (_, ends) in INPUTS.items() if ending in ends] for ending in
-                (".report", ".sample", ".plan", ".out")}
+                (".report", ".sample", ".plan", ".answer", ".out")}
     for path in files:
         inputs = [path.with_suffix(it) for it in partners.get(path.suffix, ())]
         checks.check(not inputs or any(it.is_file() for it in inputs), f"{path} has no input beside it")
@@ -217,6 +236,7 @@ def main(words):
     for folder in FOLDERS:
         examples(checks, folder)
     faults(checks, Path("examples/faults"))
+    changes(checks)
     for wrong in quotes.wrong():
         checks.check(not wrong[1], f"{wrong[0]}: {wrong[1]}")
     for picture, how in PICTURES.items():

@@ -1,5 +1,5 @@
 // The lines of a report, each made in a buffer.
-ghost use Rattle.std.specs.Prelude.{◌≡◌, ◌+◌, ◌≤◌, ◌++◌, ℕ, List, Some, length};
+ghost use Rattle.std.specs.Prelude.{◌≡◌, ◌+◌, ◌≤◌, ◌++◌, Some, length};
 ghost use Rattle.unit_core.specs.Reports.{event_line, end_text, section_line};
 ghost use Rattle.audit_reader.specs.ReportLines.{count_line};
 ghost use Rattle.audit_reader.specs.LastLines.{unit_line_of};

@@ -30,6 +30,7 @@ untold_text command s text (inr (inr long)) = inr (inr (record { asked = long.as
 
 untold_command : (command : Subcommand) (s sink : Change) (status : Status) (history : Option (List ℕ)) → EndsCommand command s sink status history → EndsCommand command (untold s) sink status history
 untold_command command s sink statuses.Done history e = (e.0, (e.1.0, untold_input (reads command) s e.1.0 e.1.1, e.1.2), e.2)
+untold_command command s sink statuses.NotLegal history e = (e.0, (e.1.0, untold_input (reads command) s e.1.0 e.1.1, e.1.2), e.2)
 untold_command command s sink statuses.Usage history e = e
 untold_command command s sink statuses.BadInput history e = (e.0, (e.1.0, (e.1.1.0, untold_input (reads command) s e.1.1.0 e.1.1.1, e.1.1.2), e.1.2))
 untold_command command s sink statuses.ReadFault history e = (e.0, e.1, e.2, untold_few s e.3)

@@ -192,7 +192,7 @@ const ANSWERS: [(&str, &str, &[u32], Status, &str); 6] = [
         UPDATE,
         &[0],
         Status::Usage,
-        "iopmp: usage: iopmp run | compile | plan | live | gen N | soak N | faults | narrow | narrow live\n",
+        "iopmp: usage: iopmp run | compile | plan | live | gen N | soak N | faults | audit | narrow | narrow live\n",
     ),
 ];
 

@@ -2,6 +2,7 @@
 use Rattle.std.proofs.Common.{◌≡◌, ℕ, ◌<◌, Bool, true, false, List, Some, None, Ok, Err, sym, ap, subst, ◌∙◌, inl, inr, arith}
 use Rattle.event_words.specs.Sections.{SectionOf}
 use Rattle.script_reader.specs.Scripts.{need_of}
+use Rattle.script_reader.specs.Answers.{reading_of}
 use Rattle.script_reader.specs.LiveLanes.{lanes_at}
 use Rattle.script_reader.specs.UpdateTexts.{UpdateTextOf, update_text_at}
 use Rattle.policy_compiler.specs.Policies.{PolicyOf}
@@ -10,7 +11,7 @@ use Rattle.policy_compiler.specs.Needs.{need_refusal}
 use Rattle.policy_compiler.proofs.OnePolicy.{same_policy, no_fault}
 use Rattle.update_planner.specs.Refusals.{plan_refusal}
 use Rattle.iopmp_program.specs.declared.subcommand.Subcommand.{Subcommand}
-use Rattle.iopmp_program.specs.declared.subcommand.Subcommand.TheVariants.{Run, Compile, Plan, Live, Gen, Soak, Faults, Narrow, NarrowLive}
+use Rattle.iopmp_program.specs.declared.subcommand.Subcommand.TheVariants.{Run, Compile, Plan, Live, Gen, Soak, Faults, Audit, Narrow, NarrowLive}
 use Rattle.iopmp_program.specs.declared.refusals.policy_lines.WhichPolicy.{WhichPolicy}
 use Rattle.iopmp_program.specs.declared.refusals.policy_lines.WhichPolicy.TheVariants.{Only, Old, New}
 use Rattle.iopmp_program.specs.PolicyLines.{policy_line, IsNoPolicy}
@@ -92,6 +93,12 @@ never_refused Live bytes line a (inr r) = plan_runs plan_section line r.update a
 never_refused (Gen number) bytes line a r = absurd r
 never_refused (Soak number) bytes line a r = absurd r
 never_refused Faults bytes line a r = let e = a.1 in let f = r.refused in cc
+never_refused Audit bytes line a (inl r) = let e = a.parted in let f = r.fault in cc
+never_refused Audit bytes line a (inr r) =
+    let same : r.parts ≡ a.parts = (let e = a.parted in let f = r.parted in cc) in
+    let refused : reading_of a.parts.script ≡ Err r.error = subst (λ t. reading_of t.script ≡ Err r.error) same r.refused in
+    let read = a.stands_for in
+    cc
 never_refused Narrow bytes line a r = two_planned bytes line a r
 never_refused NarrowLive bytes line a (inl r) = is_update true bytes line a.update a.stands_for r
 never_refused NarrowLive bytes line a (inr r) = plan_runs narrow_section line r.update a.update (same_update true bytes r.update a.update r.stands_for a.stands_for) a.is r.is

@@ -15,12 +15,14 @@ use Rattle.iopmp_program.specs.declared.status.Status.TheVariants.{Done}
 use Rattle.iopmp_program.specs.declared.answer.Answer.{Answer}
 use Rattle.iopmp_program.specs.declared.answer.NoAnswer.{NoAnswer}
 use Rattle.iopmp_program.specs.declared.answer.NoAnswer.TheVariants.{Refused, NoMemory}
-use Rattle.iopmp_program.specs.declared.subcommand.Subcommand.TheVariants.{Run, Compile, Plan, Live, Faults, Narrow, NarrowLive}
+use Rattle.iopmp_program.specs.declared.subcommand.Subcommand.TheVariants.{Run, Compile, Plan, Live, Faults, Audit, Narrow, NarrowLive}
 use Rattle.iopmp_program.specs.declared.refusals.policy_lines.WhichPolicy.TheVariants.{Only}
 use Rattle.iopmp_program.specs.AnswerForms.{TextOf, ReportOf, GivesOr}
 use Rattle.iopmp_program.specs.ReportedRuns.{IsRun}
+use Rattle.script_reader.specs.ReportTexts.{ReportTextOf, report_text_at}
 use Rattle.iopmp_program.specs.RunCommand.{IsRefusal}
 use Rattle.iopmp_program.specs.FaultsCommand.{IsFaultsRun, IsFaultsReport}
+use Rattle.iopmp_program.specs.AuditCommand.{CanBeAudited, IsSaid, HasNoReport}
 use Rattle.iopmp_program.specs.CompileCommand.{IsImageText, NeedsMore}
 use Rattle.iopmp_program.specs.UpdateInputs.{UpdateOf, IsUpdate, IsReadable, IsNoUpdate, HasNoPlan}
 use Rattle.iopmp_program.specs.PlanCommand.{plan_section, IsPlanText, Plans}
@@ -69,6 +71,23 @@ faults_refused bytes NoMemory h = tt
 pub faults_reported : (bytes : List ℕ) (script : ScriptOf) (a : Answer) → reading_of bytes ≡ Ok script → ReportOf (IsFaultsRun script) a.status a.history a.text.items → Answers Faults bytes (Ok a)
 faults_reported bytes script a is h =
     report_as (IsFaultsRun script) (IsFaultsReport bytes) a.status a.history a.text.items (λ words run. record { script = script; stands_for = is; run = run }) h
+
+-- ---- audit
+
+pub no_parts : (bytes : List ℕ) (e : NoAnswer) → (let r : Result ReportTextOf NoAnswer = Err e in GivesOr (λ t. report_text_at bytes ≡ Ok t) (HasNoReport bytes) r) → Answers Audit bytes (Err e)
+no_parts bytes (Refused line) h = inl h
+no_parts bytes NoMemory h = tt
+
+pub no_script : (bytes : List ℕ) (parts : ReportTextOf) (e : NoAnswer) → report_text_at bytes ≡ Ok parts
+    → (let r : Result ScriptOf NoAnswer = Err e in GivesOr (λ s. reading_of parts.script ≡ Ok s) (IsRefusal parts.script) r) → Answers Audit bytes (Err e)
+no_script bytes parts (Refused line) p h = inr (record { parts = parts; error = h.error; parted = p; refused = h.refused; named = h.named })
+no_script bytes parts NoMemory p h = tt
+
+pub audit_said : (bytes : List ℕ) (input : CanBeAudited bytes) (r : Result Answer NoAnswer)
+    → GivesOr (λ a. IsSaid input.script input.parts.heading input.parts.report a.status a.history a.text.items) (λ line. ⊥) r → Answers Audit bytes r
+audit_said bytes input (Ok a) h = record { input = input; said = h }
+audit_said bytes input (Err (Refused line)) h = absurd h
+audit_said bytes input (Err NoMemory) h = tt
 
 -- ---- compile
 

@@ -1,11 +1,12 @@
 -- How a call of each command ends, in the command's words. All of it follows from what is said once for all commands.
 use Rattle.std.proofs.Common.{◌≡◌, ℕ, ◌⊎◌, List, Option, Some, None, Ok, refl, subst, inl, inr}
-use Rattle.std.specs.Prelude.{IsSomeAnd}
+use Rattle.std.specs.Prelude.{IsSomeAnd, ◌+◌, ◌++◌, codes}
+use Rattle.std.specs.Fmt.{decimal}
 use Rattle.script_reader.specs.Answers.{reading_of}
 use Rattle.iopmp_program.specs.declared.status.Status.{Status}
-use Rattle.iopmp_program.specs.declared.status.Status.TheVariants.{Done, Usage, BadInput, ReadFault, WriteFault, NoMemory, TooLong}
+use Rattle.iopmp_program.specs.declared.status.Status.TheVariants.{Done, Usage, BadInput, ReadFault, WriteFault, NoMemory, TooLong, NotLegal}
 use Rattle.iopmp_program.specs.declared.subcommand.Subcommand.{Subcommand}
-use Rattle.iopmp_program.specs.declared.subcommand.Subcommand.TheVariants.{Run, Compile, Plan, Live, Gen, Soak, Faults, Narrow, NarrowLive}
+use Rattle.iopmp_program.specs.declared.subcommand.Subcommand.TheVariants.{Run, Compile, Plan, Live, Gen, Soak, Faults, Audit, Narrow, NarrowLive}
 use Rattle.iopmp_program.specs.RunCommand.{IsReport, IsRefusal}
 use Rattle.iopmp_program.specs.CompileCommand.{IsCompiled, IsNotCompiled}
 use Rattle.iopmp_program.specs.PlanCommand.{IsPlanned, IsNotPlanned}
@@ -17,6 +18,10 @@ use Rattle.iopmp_program.specs.GenCommand.{generated_text}
 use Rattle.iopmp_program.specs.SoakCommand.{IsSoak, IsSoaked}
 use Rattle.iopmp_program.specs.Summaries.{soak_text}
 use Rattle.iopmp_program.specs.FaultsCommand.{IsFaultsReport}
+use Rattle.audit_reader.specs.declared.answer.Audit.{Audit as Found}
+use Rattle.audit_reader.specs.declared.answer.Audit.TheVariants.{Legal, BadAt}
+use Rattle.audit_reader.specs.Audits.{Audits}
+use Rattle.iopmp_program.specs.AuditCommand.{CanBeAudited, Says, IsNotAudited}
 use Rattle.iopmp_program.specs.CommandTables.{Gives, IsRefused, IsAccepted}
 use Rattle.iopmp_program.specs.CallEndings.{Change, WasRead, WasWritten, PrefixWritten, IsText, EndsCommand}
 use Rattle.iopmp_program.proofs.Accepted.{never_refused}
@@ -77,6 +82,45 @@ faults_done source sink (Some words) e = (e.1.0, e.0, e.1.1, e.1.2.1, e.2)
 
 pub faults_refused : (source sink : Change) (history : Option (List ℕ)) → EndsCommand Faults source sink BadInput history → (history ≡ None) × Answered IsRefusal source sink
 faults_refused source sink history e = (e.0, (e.1.1.0, e.1.0, e.1.1.1, e.1.1.2, e.1.2))
+
+-- ---- audit
+
+-- the input's report was found legal: the work is done exactly then
+pub audit_done : (source sink : Change) (history : Option (List ℕ)) → EndsCommand Audit source sink Done history
+    → (history ≡ None) × Answered (λ bytes text. (input : CanBeAudited bytes) × Audits input.script input.parts.report Legal × (text ≡ codes "yes\n")) source sink
+audit_done source sink history e = by e.1.2.said.found e.1.2.said.true_of e.1.2.said.says
+  where
+    bytes : List ℕ
+    bytes = e.1.0
+
+    input : CanBeAudited bytes
+    input = e.1.2.input
+
+    by : (found : Found) → Audits input.script input.parts.report found → Says input.parts.heading found Done history e.0
+        → (history ≡ None) × Answered (λ bytes text. (input : CanBeAudited bytes) × Audits input.script input.parts.report Legal × (text ≡ codes "yes\n")) source sink
+    by Legal t s = (s.1, (bytes, e.0, e.1.1, (input, t, s.2), e.2))
+    by (BadAt line) t s = let status = s.0 in absurd cc
+
+-- its first bad line was named, counted over the whole input
+pub audit_not_legal : (source sink : Change) (history : Option (List ℕ)) → EndsCommand Audit source sink NotLegal history
+    → (history ≡ None) × Answered (λ bytes text. (input : CanBeAudited bytes) × (line : ℕ) × Audits input.script input.parts.report (BadAt line)
+    × (text ≡ codes "no " ++ (decimal (input.parts.heading + line) ++ codes "\n"))) source sink
+audit_not_legal source sink history e = by e.1.2.said.found e.1.2.said.true_of e.1.2.said.says
+  where
+    bytes : List ℕ
+    bytes = e.1.0
+
+    input : CanBeAudited bytes
+    input = e.1.2.input
+
+    by : (found : Found) → Audits input.script input.parts.report found → Says input.parts.heading found NotLegal history e.0
+        → (history ≡ None) × Answered (λ bytes text. (input : CanBeAudited bytes) × (line : ℕ) × Audits input.script input.parts.report (BadAt line)
+        × (text ≡ codes "no " ++ (decimal (input.parts.heading + line) ++ codes "\n"))) source sink
+    by Legal t s = let status = s.0 in absurd cc
+    by (BadAt line) t s = (s.1, (bytes, e.0, e.1.1, (input, line, t, s.2), e.2))
+
+pub audit_refused : (source sink : Change) (history : Option (List ℕ)) → EndsCommand Audit source sink BadInput history → (history ≡ None) × Answered IsNotAudited source sink
+audit_refused source sink history e = (e.0, (e.1.1.0, e.1.0, e.1.1.1, e.1.1.2, e.1.2))
 
 -- ---- narrow
 
@@ -148,6 +192,7 @@ gen_reads_nothing number source sink Usage history e = absurd e
 gen_reads_nothing number source sink BadInput history e = absurd e.1.1.2
 gen_reads_nothing number source sink ReadFault history e = let asked = e.1 in absurd cc
 gen_reads_nothing number source sink TooLong history e = let asked = e.1.1.asked in absurd cc
+gen_reads_nothing number source sink NotLegal history e = let done = e.1.2.0 in absurd cc
 
 pub soak_reads_nothing : (number : ℕ) (source sink : Change) (status : Status) (history : Option (List ℕ)) → EndsCommand (Soak number) source sink status history
     → (status ≡ Done) ⊎ (status ≡ WriteFault) ⊎ (status ≡ NoMemory)
@@ -158,6 +203,7 @@ soak_reads_nothing number source sink Usage history e = absurd e
 soak_reads_nothing number source sink BadInput history e = absurd e.1.1.2
 soak_reads_nothing number source sink ReadFault history e = let asked = e.1 in absurd cc
 soak_reads_nothing number source sink TooLong history e = let asked = e.1.1.asked in absurd cc
+soak_reads_nothing number source sink NotLegal history e = let done = e.1.2.0 in absurd cc
 
 -- ---- each command
 
@@ -174,6 +220,7 @@ given_accepted (Gen number) bytes status history text g = tt
 given_accepted (Soak number) bytes status history text g = tt
 given_accepted Faults bytes status None text g = absurd g.1
 given_accepted Faults bytes status (Some words) text g = (g.1.script, g.1.stands_for)
+given_accepted Audit bytes status history text g = g.input
 given_accepted Narrow bytes status history text g = record { update = g.2.update; stands_for = g.2.stands_for; is = g.2.is.plans }
 given_accepted NarrowLive bytes status None text g = absurd g.1
 given_accepted NarrowLive bytes status (Some words) text g =

@@ -4,10 +4,11 @@ use Rattle.std.specs.Io.KnownBytes.{Consumes}
 use Rattle.iopmp_program.specs.declared.status.Status.{Status}
 use Rattle.iopmp_program.specs.declared.status.Status.TheVariants as statuses
 use Rattle.iopmp_program.specs.declared.subcommand.Subcommand.{Subcommand}
-use Rattle.iopmp_program.specs.declared.subcommand.Subcommand.TheVariants.{Run, Compile, Plan, Live, Gen, Soak, Faults, Narrow, NarrowLive}
+use Rattle.iopmp_program.specs.declared.subcommand.Subcommand.TheVariants.{Run, Compile, Plan, Live, Gen, Soak, Faults, Audit, Narrow, NarrowLive}
 use Rattle.iopmp_program.specs.CommandTables.{reads, Gives, IsRefused}
 use Rattle.iopmp_program.specs.CallEndings.{Change, Failed, WasRead, IsFault, EndsCommand, HasAccepted, IsSoundIf, IsSound, IsGood, Completes}
 use Rattle.iopmp_program.proofs.Accepted.{never_refused}
+use Rattle.iopmp_program.proofs.GivenStatuses.{given_status}
 
 read_is : (left : Option (List ℕ)) (bytes bs : List ℕ) → left ≡ Some bytes → IfSome left (λ xs. bs ≡ xs) → bs ≡ bytes
 read_is None bytes bs e h = cc
@@ -37,6 +38,7 @@ no_fault Live source line f ok = accepted_not Live source f.0 line f.1 ok f.2
 no_fault (Gen number) source line f ok = absurd f.2
 no_fault (Soak number) source line f ok = absurd f.2
 no_fault Faults source line f ok = accepted_not Faults source f.0 line f.1 ok f.2
+no_fault Audit source line f ok = accepted_not Audit source f.0 line f.1 ok f.2
 no_fault Narrow source line f ok = accepted_not Narrow source f.0 line f.1 ok f.2
 no_fault NarrowLive source line f ok = accepted_not NarrowLive source f.0 line f.1 ok f.2
 
@@ -52,12 +54,14 @@ given_good Live bytes status history text g = g.0
 given_good (Gen number) bytes status history text g = g.0
 given_good (Soak number) bytes status history text g = g.0
 given_good Faults bytes status history text g = g.0
+given_good Audit bytes status history text g = given_status Audit bytes status history text g
 given_good Narrow bytes status history text g = g.0
 given_good NarrowLive bytes status history text g = g.0
 
 pub completes : (command : Subcommand) (source sink : Change) (status : Status) (history : Option (List ℕ)) → EndsCommand command source sink status history
     → IsSound command source → (Failed sink → ⊥) → IsGood command status ⊎ (status ≡ statuses.NoMemory)
 completes command source sink statuses.Done history e ok sound = inl (given_good command e.1.0 statuses.Done history e.0 e.1.2)
+completes command source sink statuses.NotLegal history e ok sound = inl (given_good command e.1.0 statuses.NotLegal history e.0 e.1.2)
 completes command source sink statuses.NoMemory history e ok sound = inr refl
 completes command source sink statuses.Usage history e ok sound = absurd e
 completes command source sink statuses.BadInput history e ok sound = absurd (no_fault command source e.1.0 e.1.1 ok)

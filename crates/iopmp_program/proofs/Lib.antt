@@ -5,6 +5,7 @@ pub mod UpdateRefusals
 pub mod ScriptsBeside
 pub mod CommandAnswers
 pub mod Accepted
+pub mod GivenStatuses
 pub mod Completeness
 pub mod CommandLaws
 pub mod GeneratorDraws

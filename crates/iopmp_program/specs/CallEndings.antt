@@ -6,8 +6,9 @@ use Rattle.std.specs.Io.KnownBytes.{Appends, IsAtEnd}
 use Rattle.edge_io.specs.Faults.{Rose}
 use Rattle.edge_io.specs.Streams.{TakesFront, AppendsPrefix}
 use Rattle.iopmp_program.specs.declared.status.Status.{Status}
-use Rattle.iopmp_program.specs.declared.status.Status.TheVariants.{Done, Usage, BadInput, ReadFault, WriteFault, NoMemory, TooLong}
+use Rattle.iopmp_program.specs.declared.status.Status.TheVariants.{Done, Usage, BadInput, ReadFault, WriteFault, NoMemory, TooLong, NotLegal}
 use Rattle.iopmp_program.specs.declared.subcommand.Subcommand.{Subcommand}
+use Rattle.iopmp_program.specs.declared.subcommand.Subcommand.TheVariants.{Audit}
 use Rattle.iopmp_program.specs.FaultLines.{usage_line, too_long_line}
 use Rattle.iopmp_program.specs.CommandTables.{reads, Gives, IsRefused, IsAccepted}
 
@@ -133,7 +134,8 @@ IsSound command source = IsSoundIf (reads command) command source
 
 -- the status with which a command ends whose input has no fault
 abbrev pub IsGood : Subcommand → Status → Type 0
-IsGood command status = status ≡ Done
+IsGood Audit status = (status ≡ Done) ⊎ (status ≡ NotLegal)
+IsGood _ status = status ≡ Done
 
 -- Where neither stream failed and the input has no fault, the work is done, unless memory runs out.
 abbrev pub Completes : Option Subcommand → Change → Change → Status → Type 0

@@ -3,7 +3,7 @@
 use Rattle.std.specs.Prelude.{ℕ, Bool, true, false, List, Option, Result}
 use Rattle.iopmp_program.specs.declared.status.Status.{Status}
 use Rattle.iopmp_program.specs.declared.subcommand.Subcommand.{Subcommand}
-use Rattle.iopmp_program.specs.declared.subcommand.Subcommand.TheVariants.{Run, Compile, Plan, Live, Gen, Soak, Faults, Narrow, NarrowLive}
+use Rattle.iopmp_program.specs.declared.subcommand.Subcommand.TheVariants.{Run, Compile, Plan, Live, Gen, Soak, Faults, Audit, Narrow, NarrowLive}
 use Rattle.iopmp_program.specs.declared.answer.Answer.{Answer}
 use Rattle.iopmp_program.specs.declared.answer.NoAnswer.{NoAnswer}
 use Rattle.iopmp_program.specs.AnswerForms.{TextOf, ReportOf, GivesOr}
@@ -16,6 +16,7 @@ use Rattle.iopmp_program.specs.NarrowLiveCommand.{IsNarrowReport, IsNarrowRefusa
 use Rattle.iopmp_program.specs.GenCommand.{IsGenerated}
 use Rattle.iopmp_program.specs.SoakCommand.{IsSoaked}
 use Rattle.iopmp_program.specs.FaultsCommand.{IsFaultsReport}
+use Rattle.iopmp_program.specs.AuditCommand.{IsAudited, IsNotAudited, CanBeAudited}
 
 -- whether the command reads its input
 abbrev pub reads : Subcommand → Bool
@@ -26,6 +27,7 @@ reads Live = true
 reads (Gen number) = false
 reads (Soak number) = false
 reads Faults = true
+reads Audit = true
 reads Narrow = true
 reads NarrowLive = true
 
@@ -39,6 +41,7 @@ Gives Live bytes = ReportOf (IsLiveReport bytes)
 Gives (Gen number) bytes = TextOf (IsGenerated number)
 Gives (Soak number) bytes = ReportOf (IsSoaked number)
 Gives Faults bytes = ReportOf (IsFaultsReport bytes)
+Gives Audit bytes = IsAudited bytes
 Gives Narrow bytes = TextOf (IsNarrowed bytes)
 Gives NarrowLive bytes = ReportOf (IsNarrowReport bytes)
 
@@ -51,6 +54,7 @@ IsRefused Live bytes line = IsLiveRefusal bytes line
 IsRefused (Gen number) bytes line = ⊥
 IsRefused (Soak number) bytes line = ⊥
 IsRefused Faults bytes line = IsRefusal bytes line
+IsRefused Audit bytes line = IsNotAudited bytes line
 IsRefused Narrow bytes line = IsNotPlanned bytes line
 IsRefused NarrowLive bytes line = IsNarrowRefusal bytes line
 
@@ -63,6 +67,7 @@ IsAccepted Live bytes = CanBeRunLive bytes
 IsAccepted (Gen number) bytes = Unit {0}
 IsAccepted (Soak number) bytes = Unit {0}
 IsAccepted Faults bytes = StandsForScript bytes
+IsAccepted Audit bytes = CanBeAudited bytes
 IsAccepted Narrow bytes = CanBePlanned bytes
 IsAccepted NarrowLive bytes = CanBeRunNarrow bytes
 

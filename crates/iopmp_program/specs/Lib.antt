@@ -24,6 +24,7 @@ pub mod GeneratedScripts
 pub mod GenCommand
 pub mod Summaries
 pub mod SoakCommand
+pub mod AuditCommand
 pub mod CommandTables
 pub mod CallEndings
 pub mod StreamEdges

@@ -2,6 +2,7 @@
 ghost use Rattle.std.specs.Prelude.{◌≤◌, length};
 ghost use Rattle.iopmp_program.specs.CommandTables.{Answers};
 
+mod audit;
 mod compile;
 mod faults;
 mod generate;
@@ -14,6 +15,7 @@ mod soak;
 
 use crate::answer::{Answer, NoAnswer};
 use crate::subcommand::Subcommand;
+use audit::audit_answer;
 use checker_workers::Gate;
 use compile::compile_answer;
 use faults::faults_answer;
@@ -46,6 +48,7 @@ pub fn answer<R: Threads + Sync, G: Gate + Sync>(
         Subcommand::Gen(number) => gen_answer(alloc, number),
         Subcommand::Soak(number) => soak_answer(rt, alloc, number, gate),
         Subcommand::Faults => faults_answer(rt, alloc, bytes, gate),
+        Subcommand::Audit => audit_answer(alloc, bytes),
         Subcommand::Narrow => narrow_answer(alloc, bytes),
         Subcommand::NarrowLive => narrow_live_answer(rt, alloc, bytes, gate),
     }

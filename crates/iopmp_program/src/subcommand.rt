@@ -23,6 +23,8 @@ pub enum Subcommand {
     Soak(u32),
     /// Plays a script and prints its report with the windows of later violations.
     Faults,
+    /// Says whether a report is that of a legal history of a script.
+    Audit,
     /// Prints the narrow plan from one policy to another, as a lane.
     Narrow,
     /// Plays the narrow plan beside lanes and prints the report of the history.
@@ -40,6 +42,7 @@ impl Subcommand {
             | Subcommand::Plan
             | Subcommand::Live
             | Subcommand::Faults
+            | Subcommand::Audit
             | Subcommand::Narrow
             | Subcommand::NarrowLive => true,
             Subcommand::Gen(_) | Subcommand::Soak(_) => false,
@@ -84,6 +87,7 @@ pub fn command_in(words: &[String]) -> Option<Subcommand>
         [word] if word.as_str() == "plan" => Some(Subcommand::Plan),
         [word] if word.as_str() == "live" => Some(Subcommand::Live),
         [word] if word.as_str() == "faults" => Some(Subcommand::Faults),
+        [word] if word.as_str() == "audit" => Some(Subcommand::Audit),
         [word] if word.as_str() == "narrow" => Some(Subcommand::Narrow),
         [word, next] => two_words(word.as_str(), next.as_str()),
         _ => None,

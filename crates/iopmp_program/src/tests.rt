@@ -1,5 +1,6 @@
 // The program over streams in memory.
 mod aims;
+mod audits;
 mod bad_lines;
 mod bad_policies;
 mod command_words;

@@ -3,6 +3,7 @@ pub mod Keys
 pub mod LineSteps
 pub mod Needs
 pub mod Numerals
+pub mod FedLines
 pub mod Parts
 pub mod SlotNames
 pub mod Slots

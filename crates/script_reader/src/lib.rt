@@ -10,6 +10,7 @@ mod name;
 mod number;
 mod print;
 mod reader;
+mod report_text;
 mod script;
 mod section;
 mod step;
@@ -20,5 +21,6 @@ mod words;
 
 pub use live::read_lanes;
 pub use print::{NoMemory, print_lane, print_script};
+pub use report_text::{ReportText, read_report_text};
 pub use script::{Script, ScriptError, read_script};
 pub use update_text::{UpdateText, read_update};

@@ -66,7 +66,7 @@ impl Model for UpdateReader {
     ghost view = { λ r. record { wanted = r.wanted; text = r.text } };
 }
 
-fn is_heading(words: &Words<'_>, name: &[u8]) -> bool
+pub(crate) fn is_heading(words: &Words<'_>, name: &[u8]) -> bool
     ensures { result ≡ spec.is_heading words.now name.now }
 {
     words.len() == 2 && words.is_word(0, b"==") && words.is_word(1, name)

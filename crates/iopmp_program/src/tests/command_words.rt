@@ -4,7 +4,7 @@ use crate::tests::split_words;
 use std::test::Fail;
 
 /// Words, and the command that they are, if they are one.
-const WORDS: [(&str, Option<Subcommand>); 30] = [
+const WORDS: [(&str, Option<Subcommand>); 33] = [
     ("run", Some(Subcommand::Run)),
     ("compile", Some(Subcommand::Compile)),
     ("plan", Some(Subcommand::Plan)),
@@ -18,6 +18,7 @@ const WORDS: [(&str, Option<Subcommand>); 30] = [
     ("soak 0000000007", Some(Subcommand::Soak(7))),
     ("soak 4294967295", Some(Subcommand::Soak(4294967295))),
     ("faults", Some(Subcommand::Faults)),
+    ("audit", Some(Subcommand::Audit)),
     ("", None),
     ("Run", None),
     ("fault", None),
@@ -26,6 +27,8 @@ const WORDS: [(&str, Option<Subcommand>); 30] = [
     ("plan 7", None),
     ("narrow run", None),
     ("plan live", None),
+    ("audit 7", None),
+    ("audits", None),
     ("live narrow", None),
     ("narrow live live", None),
     ("gen", None),

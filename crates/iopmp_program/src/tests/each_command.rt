@@ -17,7 +17,7 @@ pub struct Accepted {
 }
 
 /// Each command once.
-pub const COMMANDS: [Accepted; 9] = [
+pub const COMMANDS: [Accepted; 10] = [
     Accepted {
         words: "run",
         input: "iopmp 1\nunit rrids 4 domains 3 entries 8 mdcfg 0 k 0 srcmd 0 sps 0 queue 1 transl -\nboot\nr 0 0x8\nlane 1\nr 0 0x8\nend\n",
@@ -72,6 +72,12 @@ pub const COMMANDS: [Accepted; 9] = [
         reads: true,
         plays: true,
     },
+    Accepted {
+        words: "audit",
+        input: "iopmp 1\nunit rrids 4 domains 3 entries 8 mdcfg 0 k 0 srcmd 0 sps 0 queue 1 transl -\nboot\nend\n== report\nevents 0\nsection 0 done\nunit 0 0x0 0x0 0x0 0x0\nend\n",
+        reads: true,
+        plays: false,
+    },
 ];
 
 /// How a command ends over such streams, how many bytes the sink took, and whether there is a history.
@@ -107,8 +113,8 @@ fn each_command_goes_the_same_way(rt: HostRuntime) -> Result<(), Fail> {
         assert_eq!(rt; status, if_read(&command, Status::ReadFault), "{words}");
         let first = ended(&rt, words, input, failing_at(None, Some(0), 8))?;
         assert_eq!(rt; first, (Status::WriteFault, 0, false), "{words}");
-        let second = ended(&rt, words, input, failing_at(None, Some(1), 8))?;
-        assert_eq!(rt; second, (Status::WriteFault, 8, false), "{words}");
+        let second = ended(&rt, words, input, failing_at(None, Some(1), 2))?;
+        assert_eq!(rt; second, (Status::WriteFault, 2, false), "{words}");
     }
     Ok(())
 }

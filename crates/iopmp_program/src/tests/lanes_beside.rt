@@ -2,7 +2,7 @@
 use crate::reports::replay::replay_words;
 use crate::tests::meeting::Meeting;
 use crate::tests::rows::UNIT;
-use crate::tests::{NONE, called, has};
+use crate::tests::{NONE, called, expect, has};
 use crate::{Status, play, report};
 use checker_workers::FreeGate;
 use event_words::{Event, LoggedEvent, Reply};
@@ -98,7 +98,10 @@ fn an_update_runs_under_traffic(rt: HostRuntime) -> Result<(), Fail> {
         return Err(Fail::new("no memory"));
     };
     assert_eq!(rt; ended.taken.as_slice(), report.as_slice());
-    Ok(())
+    let mut audited = bytes.to_vec(alloc)?;
+    audited.extend_from_slice(b"== report\n")?;
+    audited.extend_from_slice(&report)?;
+    expect(&rt, "audit", &audited, Status::Done, "yes\n")
 }
 
 /// Each lane waits for what the other writes, so in a run of one after the other the first gives up.

@@ -22,7 +22,7 @@ fn scripts_are_run(rt: HostRuntime) -> Result<(), Fail> {
 }
 
 const USAGE: &str =
-    "iopmp: usage: iopmp run | compile | plan | live | gen N | soak N | faults | narrow | narrow live\n";
+    "iopmp: usage: iopmp run | compile | plan | live | gen N | soak N | faults | audit | narrow | narrow live\n";
 
 const EMPTY_REPORT: &str = "events 0\nsection 0 done\nunit 0 0x0 0x0 0x0 0x0\nend\n";
 

@@ -1,0 +1,112 @@
+-- The lines of a text, byte by byte, and the parts of an input, line by line.
+use Rattle.std.proofs.Common.{◌≡◌, ◌≢◌, ℕ, ◌+◌, ◌-◌, ◌<◌, Bool, true, false, cond, if◌then◌else◌, ◌++◌, List, [], ◌∷◌, Ok, take, drop, get_or, length, codes, drop-cons, add-one, refl, sym, ap, ◌∙◌, ne_eqb, eq-eqb, arith}
+use Rattle.std.specs.Prelude.{◌==◌}
+use Rattle.std.specs.List.{concat}
+use Rattle.std.proofs.Math.Seq.{take-add}
+use Rattle.std.proofs.lemmas.List.{take_more, take_rest, drop-drop}
+use Rattle.script_reader.specs.Text.{words_of, without_last_line_feed}
+use Rattle.script_reader.specs.UpdateTexts.{is_heading}
+use Rattle.script_reader.specs.ReportTexts.{ReportTextOf, fed_lines, with_byte, report_text_from, report_text_at}
+
+-- lines, of which the first has these bytes before it
+abbrev pub onto : List ℕ → List (List ℕ) → List (List ℕ)
+onto [] lines = lines
+onto (b ∷ bs) lines = with_byte b (onto bs lines)
+
+onto_more : (bs : List ℕ) (b : ℕ) (lines : List (List ℕ)) → onto (bs ++ b ∷ []) lines ≡ onto bs (with_byte b lines)
+onto_more [] b lines = refl
+onto_more (c ∷ bs) b lines = ap (with_byte c) (onto_more bs b lines)
+
+onto_line : (bs line : List ℕ) (lines : List (List ℕ)) → onto bs (line ∷ lines) ≡ (bs ++ line) ∷ lines
+onto_line [] line lines = refl
+onto_line (b ∷ bs) line lines = ap (with_byte b) (onto_line bs line lines)
+
+onto_none : (b : ℕ) (bs : List ℕ) → onto (b ∷ bs) [] ≡ (b ∷ bs) ∷ []
+onto_none b [] = refl
+onto_none b (c ∷ bs) = ap (with_byte b) (onto_none c bs)
+
+left_more : (bytes : List ℕ) (i : ℕ) → i < length bytes → drop i bytes ≡ get_or bytes i 0 ∷ drop (i + 1) bytes
+left_more bytes i h = drop-cons bytes i 0 h ∙ ap (λ n. get_or bytes i 0 ∷ drop n bytes) (sym (add-one i))
+
+other_byte : (b : ℕ) (bs : List ℕ) → b ≢ 10 → fed_lines (b ∷ bs) ≡ with_byte b (fed_lines bs)
+other_byte b bs h = ap (λ t. cond t ((b ∷ []) ∷ fed_lines bs) (with_byte b (fed_lines bs))) (ne_eqb b 10 h)
+
+line_feed : (b : ℕ) (bs : List ℕ) → b ≡ 10 → fed_lines (b ∷ bs) ≡ (b ∷ []) ∷ fed_lines bs
+line_feed b bs h = ap (λ t. cond t ((b ∷ []) ∷ fed_lines bs) (with_byte b (fed_lines bs))) (eq-eqb b 10 h)
+
+-- a byte more that is no line feed
+pub byte_more : (bytes : List ℕ) (i : ℕ) → i < length bytes → get_or bytes i 0 ≢ 10
+    → fed_lines bytes ≡ onto (take i bytes) (fed_lines (drop i bytes)) → fed_lines bytes ≡ onto (take (i + 1) bytes) (fed_lines (drop (i + 1) bytes))
+byte_more bytes i h n e =
+    let b = get_or bytes i 0 in
+    e ∙ ap (λ bs. onto (take i bytes) (fed_lines bs)) (left_more bytes i h) ∙ ap (onto (take i bytes)) (other_byte b (drop (i + 1) bytes) n)
+    ∙ sym (onto_more (take i bytes) b (fed_lines (drop (i + 1) bytes))) ∙ ap (λ bs. onto bs (fed_lines (drop (i + 1) bytes))) (sym (take_more bytes i 0 h))
+
+pub line_ends : (bytes : List ℕ) (i : ℕ) → i < length bytes → get_or bytes i 0 ≡ 10
+    → fed_lines bytes ≡ onto (take i bytes) (fed_lines (drop i bytes)) → fed_lines bytes ≡ take (i + 1) bytes ∷ fed_lines (drop (i + 1) bytes)
+line_ends bytes i h n e =
+    let b = get_or bytes i 0 in
+    e ∙ ap (λ bs. onto (take i bytes) (fed_lines bs)) (left_more bytes i h) ∙ ap (onto (take i bytes)) (line_feed b (drop (i + 1) bytes) n)
+    ∙ onto_line (take i bytes) (b ∷ []) (fed_lines (drop (i + 1) bytes)) ∙ ap (λ bs. bs ∷ fed_lines (drop (i + 1) bytes)) (sym (take_more bytes i 0 h))
+
+pub take_all : (bytes : List ℕ) → take (length bytes) bytes ≡ bytes
+take_all [] = refl
+take_all (b ∷ bs) = ap (λ cs. b ∷ cs) (take_all bs)
+
+drop_all : (bytes : List ℕ) → drop (length bytes) bytes ≡ []
+drop_all [] = refl
+drop_all (b ∷ bs) = drop_all bs
+
+whole : (bytes : List ℕ) → 0 < length bytes → onto bytes [] ≡ bytes ∷ []
+whole [] h = absurd (omega (arith, h))
+whole (b ∷ bs) h = onto_none b bs
+
+-- a text without line feeds is one line
+pub text_ends : (bytes : List ℕ) (i : ℕ) → 0 < length bytes → i ≡ length bytes
+    → fed_lines bytes ≡ onto (take i bytes) (fed_lines (drop i bytes)) → fed_lines bytes ≡ take (length bytes) bytes ∷ fed_lines (drop (length bytes) bytes)
+text_ends bytes i h same e =
+    e ∙ ap (λ n. onto (take n bytes) (fed_lines (drop n bytes))) same
+    ∙ ap (λ bs. onto (take (length bytes) bytes) (fed_lines bs)) (drop_all bytes)
+    ∙ ap (λ bs. onto bs []) (take_all bytes) ∙ whole bytes h
+    ∙ ap (λ bs. bs ∷ []) (sym (take_all bytes))
+    ∙ ap (λ bs. take (length bytes) bytes ∷ fed_lines bs) (sym (drop_all bytes))
+
+-- the lines of a text are the text
+pub concat_fed : (bytes : List ℕ) → concat (fed_lines bytes) ≡ bytes
+concat_fed [] = refl
+concat_fed (b ∷ bs) = by (b == 10) (fed_lines bs) (concat_fed bs)
+  where
+    by : (t : Bool) (ls : List (List ℕ)) → concat ls ≡ bs → concat (cond t ((b ∷ []) ∷ ls) (with_byte b ls)) ≡ b ∷ bs
+    by true ls e = ap (λ cs. b ∷ cs) e
+    by false [] e = ap (λ cs. b ∷ cs) e
+    by false (l ∷ ls) e = ap (λ cs. b ∷ cs) e
+
+-- ---- the parts of an input, one line on
+
+-- the first line of what is left from a place on
+pub line_at : (bytes : List ℕ) (start size : ℕ) → fed_lines (take (length bytes - start) (drop start bytes)) ≡ take size (take (length bytes - start) (drop start bytes)) ∷ fed_lines (drop size (take (length bytes - start) (drop start bytes)))
+    → fed_lines (drop start bytes) ≡ take size (drop start bytes) ∷ fed_lines (drop (start + size) bytes)
+line_at bytes start size e =
+    let rest = take_rest bytes start in
+    ap fed_lines (sym rest) ∙ e ∙ ap (λ l. take size l ∷ fed_lines (drop size l)) rest ∙ ap (λ l. take size (drop start bytes) ∷ fed_lines l) (drop-drop size start bytes)
+
+module _ (bytes : List ℕ) (start size n : ℕ) (parts : report_text_from (take start bytes) n (fed_lines (drop start bytes)) ≡ report_text_at bytes)
+    (next : fed_lines (drop start bytes) ≡ take size (drop start bytes) ∷ fed_lines (drop (start + size) bytes)) where
+  abbrev line : List ℕ
+  line = take size (drop start bytes)
+
+  pub heading_at : is_heading (words_of (without_last_line_feed line)) (codes "report") ≡ true
+      → report_text_at bytes ≡ Ok (let t : ReportTextOf = record { script = take start bytes; heading = n; report = drop (start + size) bytes } in t)
+  heading_at h =
+      let others = fed_lines (drop (start + size) bytes) in
+      sym parts ∙ ap (report_text_from (take start bytes) n) next
+      ∙ ap (λ t. if t then Ok (let t : ReportTextOf = record { script = take start bytes; heading = n; report = concat others } in t) else report_text_from (take start bytes ++ line) (n + 1) others) h
+      ∙ ap (λ bs. Ok (let t : ReportTextOf = record { script = take start bytes; heading = n; report = bs } in t)) (concat_fed (drop (start + size) bytes))
+
+  pub no_heading_at : is_heading (words_of (without_last_line_feed line)) (codes "report") ≡ false
+      → report_text_from (take (start + size) bytes) (n + 1) (fed_lines (drop (start + size) bytes)) ≡ report_text_at bytes
+  no_heading_at h =
+      let others = fed_lines (drop (start + size) bytes) in
+      ap (λ bs. report_text_from bs (n + 1) others) (take-add start size bytes)
+      ∙ sym (ap (λ t. if t then Ok (let t : ReportTextOf = record { script = take start bytes; heading = n; report = concat others } in t) else report_text_from (take start bytes ++ line) (n + 1) others) h)
+      ∙ ap (report_text_from (take start bytes) n) (sym next) ∙ parts
