@@ -7,7 +7,7 @@ change here. Each input has its partner, and each partner its input:
   NAME.script  NAME.sample  lanes beside each other: history.py judges the sample and a report of now, and refuses a
                             sample that was spoilt
   NAME.toml    NAME.script  `compile` prints exactly the script, which may have a report too
-  NAME.update  NAME.plan    `plan` prints exactly the plan
+  NAME.update  NAME.plan    `plan` prints exactly the plan; `narrow` prints NAME.narrow where that is there
   NAME.live    NAME.report or NAME.sample, as for scripts, for `live`
   NAME.faults  NAME.report  `faults` prints exactly the report and the lines of later violations
   NAME.audit   NAME.answer  `audit` prints exactly the answer, with status 0
@@ -52,7 +52,11 @@ INPUTS = {
 # Inputs whose reports are changed in one byte and audited, and how often.
 CHANGED = {"examples/update_under_traffic.script": 60, "examples/aimed_between.script": 20, "examples/first_access.script": 20}
 # A picture, and the words that draw.py draws it by.
-PICTURES = {"docs/live_update.svg": ["examples/seeds/page_opens.193.report"]}
+PICTURES = {
+    "docs/live_update.svg": ["examples/seeds/page_opens.193.report"],
+    "docs/one_of_three_live.svg": ["examples/seeds/one_of_three.107.report", "15", "95"],
+    "docs/one_of_three_narrow.svg": ["examples/seeds/one_of_three.107.narrow", "15", "95"],
+}
 LIMIT = 300
 
 
@@ -159,6 +163,8 @@ def example(checks, path):
         checks.same(path, got, found[0])
         if found[0].suffix == ".report" and word == "run":
             audits.legal(checks, program, path, path.read_bytes(), got)
+        if path.suffix == ".update" and path.with_suffix(".narrow").is_file():
+            checks.same(path, program(["narrow"], path.read_bytes())[1], path.with_suffix(".narrow"))
 
 
 def changes(checks):
@@ -178,6 +184,7 @@ def examples(checks, folder):
         example(checks, path)
     partners = {ending: [it for it, (_, ends) in INPUTS.items() if ending in ends] for ending in
                 (".report", ".sample", ".plan", ".answer", ".out")}
+    partners[".narrow"] = [".update"]
     for path in files:
         inputs = [path.with_suffix(it) for it in partners.get(path.suffix, ())]
         checks.check(not inputs or any(it.is_file() for it in inputs), f"{path} has no input beside it")

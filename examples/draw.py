@@ -2,9 +2,9 @@
 """Draws a report as a picture: draw.py REPORT [FIRST LAST] > PICTURE.svg
 
 A row for each caller, and each event at its place, from left to right. A submission and its verdict are joined by a
-line, which shows how long an access waited. The stall of every requester is shaded, and its drained window darker. A run
-of many equal events of one caller is folded. With FIRST and LAST only these places are drawn: some 300 are as many as one
-can read.
+line, which shows how long an access waited. The stall of every requester is shaded, and its drained window darker; where
+there is none, the stall that a lane begins with single requesters. A run of many equal events of one caller is folded.
+With FIRST and LAST only these places are drawn: some 300 are as many as one can read.
 """
 import sys
 
@@ -12,7 +12,7 @@ sys.dont_write_bytecode = True
 from itertools import accumulate, groupby
 from xml.sax.saxutils import escape
 
-from reports import Report, windows
+from reports import Report, stalls_one, windows
 
 ROW, LEFT, TOP, WIDTH, LEGEND = 46, 78, 86, 1120, 60
 # A run of more than MANY equal events is drawn as wide as FOLDED.
@@ -48,6 +48,10 @@ class Picture:
         self.lefts = [LEFT + self.step * it for it in accumulate(widths, initial=0.0)]
         self.size = max(2.2, min(5.0, self.step * 0.46))
         self.callers = range(len(report.ends))
+        self.windows = windows(report)
+        self.stalls_all = bool(self.windows[1])
+        if not self.stalls_all:
+            self.windows = windows(report, stalls_one)
         self.bottom = TOP + ROW * len(self.callers)
         self.parts = []
 
@@ -100,7 +104,7 @@ class Picture:
 
     def shades(self):
         """The stalls and their drained windows."""
-        drained, stalls = windows(self.report)
+        drained, stalls = self.windows
         for spans, colour, name in ((stalls, STALL, "stall"), (drained, DRAINED, "drained")):
             for start, end in spans:
                 if end < self.first or start > self.last:
@@ -196,7 +200,9 @@ class Picture:
             self.mark(kind, x, y - 4)
             self.text(x + 10, y, words, "small")
             x += 30 + 5.7 * len(words)
-        for colour, words in ((STALL, "everybody stalled"), (DRAINED, "drained: no verdict")):
+        all_names, some_names = ("everybody stalled", "drained: no verdict"), ("some stalled", "no verdict on them")
+        names = all_names if self.stalls_all else some_names
+        for colour, words in zip((STALL, DRAINED), names):
             self.add(f'<rect x="{x - 6:.1f}" y="{y - 10}" width="12" height="12" fill="{colour}"/>')
             self.text(x + 10, y, words, "small")
             x += 30 + 5.7 * len(words)
@@ -224,7 +230,7 @@ def drawn(words):
     last = len(report.events) - 1
     first, last = (int(words[1]), min(int(words[2]), last)) if len(words) == 3 else (0, last)
     name, _, seed = words[0].rpartition("/")[2].rpartition(".")[0].partition(".")
-    name = name.replace("_", " ") + (f", seed {seed}" if seed else "")
+    name = name.replace("_", " ") + (", narrow" if words[0].endswith(".narrow") else "") + (f", seed {seed}" if seed else "")
     return Picture(report, first, last, f"{name}: places {first} to {last} of {len(report.events)}").svg()
 
 

@@ -52,20 +52,32 @@ class Report:
         return words[0], int(words[1])
 
 
-def windows(report):
-    """The drained windows of unit 0 in which every known requester is stalled, as pairs of places: the read of MDSTALL
-    that showed bit 0 clear, and the write that ended the stall (or the number of events). And the stalls, likewise."""
+def stalls_all(event):
+    """A write of MDSTALL that stalls every requester."""
+    return event.words[:2] == ["0", "0x30"] and int(event.words[2], 16) == 1
+
+
+def stalls_one(event):
+    """A write of RRIDSCP by a lane that stalls one requester."""
+    return event.words[:2] == ["0", "0x38"] and int(event.words[2], 16) >> 30 == 1 and event.caller > 0
+
+
+def windows(report, begins=stalls_all):
+    """The drained windows of unit 0, as pairs of places: the read of MDSTALL that showed bit 0 clear after a write that
+    begins a stall, and the write of MDSTALL that ended it (or the number of events). And the stalls, likewise. The stalls
+    are those of every known requester, or such as begin otherwise."""
     drained, stalls, stalled, clear = [], [], None, None
     for event in report.events:
-        if event.words[:2] != ["0", "0x30"] or event.kind not in "wr":
-            continue
-        if event.kind == "r" and stalled is not None and clear is None and int(event.reply[0], 16) & 1 == 0:
+        is_mdstall = event.words[:2] == ["0", "0x30"]
+        if event.kind == "r" and is_mdstall and stalled is not None and clear is None and int(event.reply[0], 16) & 1 == 0:
             clear = event.place
-        elif event.kind == "w":
-            if stalled is not None:
+        elif event.kind == "w" and (is_mdstall or begins(event)):
+            if stalled is not None and is_mdstall:
                 stalls.append((stalled, event.place))
                 drained += [(clear, event.place)] * (clear is not None)
-            stalled, clear = event.place if int(event.words[2], 16) == 1 else None, None
+                stalled, clear = None, None
+            if stalled is None and begins(event):
+                stalled = event.place
     if stalled is not None:
         stalls.append((stalled, len(report.events)))
         drained += [(clear, len(report.events))] * (clear is not None)
