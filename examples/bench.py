@@ -119,6 +119,39 @@ def dotted():
     return "".join(lines)
 
 
+def held():
+    """A submission that is judged 139,264 times while it waits: as long as a report may be whose audit is asked for."""
+    waits = ["w 0 0x30 0x1", "t 0 3 r 0x0 4 as a"]
+    return script(SMALL, [*FIRST, *waits, *["settle a max 4096"] * 34])
+
+
+def audited():
+    """The same script and its report."""
+    text = held()
+    report = subprocess.run([PROGRAM, "run"], input=text.encode(), stdout=subprocess.PIPE, check=True).stdout
+    return f"{text}== report\n{report.decode()}"
+
+
+def policy(rights):
+    """64 requesters, 63 domains of two requesters each, and 16 grants a domain, of which every third has these rights."""
+    lines = ["[unit]", "rrids = 64", "domains = 63", "entries = 1024", "queue = 1"]
+    for domain in range(63):
+        bases = [0x80000000 + 0x1000 * (16 * domain + at) for at in range(16)]
+        grants = [f'{{ from = {it:#x}, size = 0x1000, rights = "{rights if it // 0x1000 % 3 == 0 else "r"}" }}' for it in bases]
+        lines += ["[[domain]]", f'name = "d{domain}"', f"rrids = [{domain}, {domain + 1}]", f"grant = [{', '.join(grants)}]"]
+    return "\n".join([*lines, ""])
+
+
+def update():
+    """A large unit, of which a third of the entries change."""
+    return f"== old\n{policy('r')}== new\n{policy('rw')}== polls 8\n"
+
+
+def unchanged():
+    """The same with nothing that changes: all requesters are looked at all the way."""
+    return f"== old\n{policy('r')}== new\n{policy('r')}== polls 8\n"
+
+
 def nothing():
     """No input."""
     return ""
@@ -130,6 +163,10 @@ LOADS = {
     "writes": (["run"], writes, False),
     "settles": (["run"], settles, False),
     "largest": (["run"], largest, False),
+    "held": (["run"], held, False),
+    "audited": (["audit"], audited, False),
+    "narrow": (["narrow"], update, False),
+    "unchanged": (["narrow"], unchanged, False),
     "gen": (["gen", "0"], nothing, False),
     "soak": (["soak", "0"], nothing, False),
     "names": (["run"], names, True),
