@@ -1,7 +1,9 @@
 // The commands `narrow` and `narrow live`: a plan that stalls one requester of two, and that plan beside a lane.
 use crate::Status;
+use crate::tests::meeting::Meeting;
 use crate::tests::{NONE, called, expect, has};
 use checker_workers::FreeGate;
+use std::alloc::Global;
 use std::test::Fail;
 
 /// The table of a unit of two requesters, but for its entries.
@@ -56,16 +58,27 @@ fn affected_requesters_stall(rt: HostRuntime) -> Result<(), Fail> {
     Ok(())
 }
 
+/// The update's input with this many entries in the new unit, and lane 2 of requester 1.
+fn input_beside(alloc: Global, entries: &str) -> Result<String, Fail> {
+    Ok(format!(in alloc;
+        "== old\n{UNIT}entries = 2\n{FIRST}\"r\"}}]\n{SECOND}== new\n{UNIT}entries = {entries}\n{FIRST}\"rw\"}}]\n{SECOND}== polls 4096\n== lanes\nlane 2\nt 0 1 w 0x90000000 4 as a\nj a\nend\n"
+    )?)
+}
+
 #[test]
 fn an_unaffected_requester_passes(rt: HostRuntime) -> Result<(), Fail> {
     let alloc = rt.alloc();
-    let input = format!(in alloc;
-        "== old\n{UNIT}entries = 2\n{FIRST}\"r\"}}]\n{SECOND}== new\n{UNIT}entries = 2\n{FIRST}\"rw\"}}]\n{SECOND}== polls 4096\n== lanes\nlane 2\nt 0 1 w 0x90000000 4 as a\nj a\nend\n"
-    )?;
+    let input = input_beside(alloc, "2")?;
     let ended = called(&rt, "narrow live", input.as_bytes(), NONE, &FreeGate)?;
     assert_eq!(rt; ended.outcome.status, Status::Done);
     assert!(rt; ended.outcome.history.is_some());
     assert!(rt; has(&ended.taken, b" passed\n"));
     assert!(rt; has(&ended.taken, b" allowed 1\n"));
-    Ok(())
+    let gate = Meeting::new();
+    let ended = called(&rt, "narrow live", input.as_bytes(), NONE, &gate)?;
+    assert_eq!(rt; ended.outcome.status, Status::Done);
+    assert!(rt; gate.took_place());
+    let other = input_beside(alloc, "3")?;
+    let line = "iopmp: the two unit tables differ\n";
+    expect(&rt, "narrow live", other.as_bytes(), Status::BadInput, line)
 }
