@@ -111,6 +111,7 @@ fn hwcfg0_locks(regs: &Regs) -> u32
         | (where_true(!has_bit(word, 13), 1 << 13) | where_true(chosen, 127 << 17))
 }
 
+#[inline(always)]
 fn locks_of(regs: &Regs, register: Register) -> u32
     requires shape { IsValidShape regs.now.shape }
     requires there { IsTrue (has_register regs.now.shape register) }
@@ -144,6 +145,7 @@ fn locks_of(regs: &Regs, register: Register) -> u32
 }
 
 /// The mask of the register at an index: its read-only fields and what its line of the table guards.
+#[inline(always)]
 fn mask_of(regs: &Regs, index: u32) -> u32
     ensures { result ≡ keep_mask regs.now index }
 {
@@ -155,6 +157,7 @@ fn mask_of(regs: &Regs, index: u32) -> u32
 
 /// The guarded bits of the register at an index (a byte offset divided by 4), and 0 where there is
 /// no register. A write that keeps these bits keeps all that is guarded in this state.
+#[inline(always)]
 pub fn keep_mask(regs: &Regs, index: u32) -> u32
     ensures value { result ≡ guarded_bits regs.now index }
     ensures bits { (i : ℕ) → i < 32 → has_bit result i ≡ is_guarded regs.now index i }
