@@ -86,6 +86,7 @@ impl Model for Regs {
 
 impl Regs {
     /// All registers of the shape, which must be valid, at their reset values.
+    #[inline(always)]
     pub fn new(alloc: Global, shape: Shape) -> Result<Regs, NoMemory>
         requires { IsValidShape shape }
         ensures { IfOk result (λ regs. regs ≡ at_reset shape) }
