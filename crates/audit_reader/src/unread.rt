@@ -18,12 +18,14 @@ impl<'a> Model for Unread<'a> {
 }
 
 impl<'a> Unread<'a> {
+    /// All of a report's bytes.
     pub fn of(bytes: &'a [u8]) -> Unread<'a>
         ensures { result ≡ bytes.now }
     {
         Unread { bytes }
     }
 
+    /// What is not read yet.
     pub fn bytes(&self) -> &[u8]
         ensures { result.now ≡ self.now }
     {
