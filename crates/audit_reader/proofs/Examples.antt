@@ -14,7 +14,7 @@ use Rattle.event_words.specs.declared.record.LoggedEvent.{LoggedEvent}
 use Rattle.event_words.specs.declared.section.Command.TheVariants as commands
 use Rattle.event_words.specs.Word.{word_of}
 use Rattle.event_words.specs.Valid.{IsValidHead, IsValidAccess, is_narrow}
-use Rattle.event_words.specs.Runs.{bearer, IsEventWord}
+use Rattle.event_words.specs.Runs.{caller_of_word, IsEventWord}
 use Rattle.unit_core.specs.Histories.{IsBoot}
 use Rattle.unit_core.specs.Reports.{report_text}
 use Rattle.script_reader.specs.Scripts.{ScriptOf, need_of}
@@ -141,12 +141,12 @@ unfolding IsEventWord
 read_word addr l n = (events.Submit 0 0 (read_at addr), (head, access addr l, n), refl)
 
 all_by_boot : AllByRecursion IsBoot before_last
-unfolding bearer
+unfolding caller_of_word
 all_by_boot = (refl, (refl, (refl, (refl, (refl, (refl, (refl, (refl, tt))))))))
 
 no_lane : (words : List ℕ) → AllByRecursion IsBoot words → Any IsOfSomeLane words → ⊥
 no_lane [] boot (k, x, l, e, p) = absurd (omega (arith, l))
-no_lane (w ∷ ws) boot (zero, x, l, e, p) = let none : bearer x ≡ 0 = ap bearer (sym e) ∙ boot.0 in absurd (omega (arith, none, p))
+no_lane (w ∷ ws) boot (zero, x, l, e, p) = let none : caller_of_word x ≡ 0 = ap caller_of_word (sym e) ∙ boot.0 in absurd (omega (arith, none, p))
 no_lane (w ∷ ws) boot (suc k, x, l, e, p) = no_lane ws boot.1 (k, x, omega (arith, l), e, p)
 
 eight_events : IsLegalSoFar two_reads before_last

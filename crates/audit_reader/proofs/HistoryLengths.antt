@@ -11,11 +11,11 @@ use Rattle.event_words.specs.declared.section.Command.{Command}
 use Rattle.event_words.specs.declared.section.Command.TheVariants.{Write}
 use Rattle.event_words.specs.Events.{caller_of}
 use Rattle.event_words.specs.Records.{section_end, events_by}
-use Rattle.event_words.specs.Runs.{bearer, IsEventWord, logged_from, logged_first}
-use Rattle.event_words.specs.Sections.{SectionOf, most_events, events_of}
+use Rattle.event_words.specs.Runs.{caller_of_word, IsEventWord, logged_from, logged_first}
+use Rattle.event_words.specs.Sections.{SectionOf, most_events, most_section_events}
 use Rattle.event_words.proofs.EventWords.{word_event}
 use Rattle.event_words.proofs.RecordCuts.{GoesOn, MayWrite, whole_record}
-use Rattle.event_words.proofs.Runs.{bearer-word_of}
+use Rattle.event_words.proofs.Runs.{caller_of_word-word_of}
 use Rattle.script_reader.specs.Scripts.{ScriptOf, most_from, need_of}
 use Rattle.unit_core.specs.Fabrics.{state_after_word, reply_to_word}
 use Rattle.unit_core.specs.Histories.{HaveRecords, IsBoot, IsOfLane, IsLegalHistory, logged_in}
@@ -52,7 +52,7 @@ any_writes caller (c ∷ cs) = (any_write c, any_writes caller cs)
     any_write (Write unit index value) = tt
     any_write _ = tt
 
-record_short : (caller : ℕ) (s : SectionOf) (xs : List LoggedEvent) → IsSome (section_end caller s xs) → length xs ≤ events_of s
+record_short : (caller : ℕ) (s : SectionOf) (xs : List LoggedEvent) → IsSome (section_end caller s xs) → length xs ≤ most_section_events s
 record_short caller s xs h = by (section_end caller s xs) h (whole_record IsAny Leaves lengths_go_on caller s.commands (any_writes caller s.commands) [] xs)
   where
     by : (o : Option SectionEnd) → IsSome o → IfSome o (λ end. Leaves (sum_by most_events s.commands) xs []) → length xs ≤ sum_by most_events s.commands
@@ -107,13 +107,13 @@ all_counted (x ∷ xs) n h =
     ap suc (all_counted xs n h.1) ∙ sym (totals_more x xs 0 n (omega arith) (omega (arith, c)))
 
 abbrev IsBorneByFirst : ℕ → ℕ → Type 0
-IsBorneByFirst n w = bearer w < n
+IsBorneByFirst n w = caller_of_word w < n
 
 callers_of_words : (n k : ℕ) (s : FabricState) (ws : List ℕ) → AllByRecursion IsEventWord ws → AllByRecursion (IsBorneByFirst n) ws → AllByRecursion (IsOfFirst n) (logged_from state_after_word reply_to_word k s ws)
 callers_of_words n k s [] p q = tt
 callers_of_words n k s (w ∷ ws) p q =
     let h = word_event w p.0 in
-    let here : caller_of h.event < n = let b = q.0 in omega (arith, b, ap bearer h.is ∙ bearer-word_of h.event h.valid) in
+    let here : caller_of h.event < n = let b = q.0 in omega (arith, b, ap caller_of_word h.is ∙ caller_of_word-word_of h.event h.valid) in
     let rest = callers_of_words n (suc k) (state_after_word s k w) ws p.1 q.1 in
     subst (λ o. AllByRecursion (IsOfFirst n) (logged_first k (reply_to_word s k w) o (logged_from state_after_word reply_to_word (suc k) (state_after_word s k w) ws))) (sym h.back) (here, rest)
 
@@ -126,14 +126,14 @@ borne_both n (v ∷ vs) ws p q = (let z = p.0 in omega (arith, z), borne_both n 
 
 at_least : (n : ℕ) (ss : List SectionOf) → n ≤ most_from n ss
 at_least n [] = omega arith
-at_least n (s ∷ ss) = let h = at_least (max n (events_of s)) ss in omega (arith, h)
+at_least n (s ∷ ss) = let h = at_least (max n (most_section_events s)) ss in omega (arith, h)
 
 abbrev HasAtMost : ℕ → SectionOf → Type 0
-HasAtMost most s = events_of s ≤ most
+HasAtMost most s = most_section_events s ≤ most
 
 each_within : (n : ℕ) (ss : List SectionOf) → AllByRecursion (HasAtMost (most_from n ss)) ss
 each_within n [] = tt
-each_within n (s ∷ ss) = (let h = at_least (max n (events_of s)) ss in omega (arith, h), each_within (max n (events_of s)) ss)
+each_within n (s ∷ ss) = (let h = at_least (max n (most_section_events s)) ss in omega (arith, h), each_within (max n (most_section_events s)) ss)
 
 lanes_within : (xs : List LoggedEvent) (i most : ℕ) (ss : List SectionOf) → HaveRecords xs i ss → AllByRecursion (HasAtMost most) ss → totals xs i (length ss) ≤ length ss * most
 lanes_within xs i most [] h few = omega arith
@@ -147,7 +147,7 @@ pub legal_is_short : (script : ScriptOf) (words : List ℕ) → IsLegalHistory s
 legal_is_short script words legal =
     let xs : List LoggedEvent = logged_in script.shapes words in
     let n : ℕ = length script.lanes in
-    let least : ℕ = max 1 (events_of script.boot) in
+    let least : ℕ = max 1 (most_section_events script.boot) in
     let most : ℕ = most_from least script.lanes in
     let logged : length xs ≡ length words = sym (length-map xs event_line) ∙ as_many_lines state_after_word reply_to_word 0 (fabric_at_reset script.shapes) words legal.events in
     let o = legal.order in

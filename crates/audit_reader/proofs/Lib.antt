@@ -10,7 +10,7 @@ pub mod LegalReports
 pub mod WholeReports
 pub mod Coming
 pub mod Starting
-pub mod Steps
+pub mod AuditSteps
 pub mod NextEvents
 pub mod Fronts
 pub mod Leading

@@ -9,10 +9,10 @@ use Rattle.event_words.specs.declared.record.LoggedEvent.{LoggedEvent}
 use Rattle.event_words.specs.Events.{caller_of}
 use Rattle.event_words.specs.Valid.{IsValidEvent}
 use Rattle.event_words.specs.Word.{word_of}
-use Rattle.event_words.specs.Runs.{bearer, logged_from, logged_first}
+use Rattle.event_words.specs.Runs.{caller_of_word, logged_from, logged_first}
 use Rattle.event_words.specs.Sections.{SectionOf}
 use Rattle.event_words.specs.Records.{section_end, events_by, is_by}
-use Rattle.event_words.proofs.Runs.{run-snoc, logged_from-append, events_by-append, event_at-word_of, events-of-beginning}
+use Rattle.event_words.proofs.Runs.{run-snoc, logged_from-append, events_by-append, event_of_word-word_of, events-of-beginning}
 use Rattle.section_cursor.specs.Cursors.{CursorOf, rest_end, HasAllTries, Allows}
 use Rattle.section_cursor.specs.ValidEvents.{HasValidEvents}
 use Rattle.unit_core.specs.Units.{FabricState, fabric_at_reset}
@@ -33,7 +33,7 @@ logged_on shapes words e more v =
     let us = fabric_at_reset shapes in
     logged_from-append state_after_word reply_to_word 0 us words (word_of e ∷ more)
     ∙ ap (λ n. logged_in shapes words ++ logged_from state_after_word reply_to_word n (state_after shapes words) (word_of e ∷ more)) (zero-add (length words))
-    ∙ ap (λ o. logged_in shapes words ++ logged_first (length words) (reply_to_word (state_after shapes words) (length words) (word_of e)) o (later shapes words e more)) (event_at-word_of e v)
+    ∙ ap (λ o. logged_in shapes words ++ logged_first (length words) (reply_to_word (state_after shapes words) (length words) (word_of e)) o (later shapes words e more)) (event_of_word-word_of e v)
 
 pub logged_more : (shapes : List Shape) (words : List ℕ) (e : Event) → IsValidEvent e → logged_in shapes (words ++ word_of e ∷ []) ≡ logged_in shapes words ++ entry_after shapes words e ∷ []
 logged_more shapes words e v = logged_on shapes words e [] v
@@ -165,7 +165,7 @@ all_after P (w ∷ ws) vs h = all_after P ws vs h.1
 
 pub no_lane : (words : List ℕ) → AllByRecursion IsBoot words → Any IsOfSomeLane words → ⊥
 no_lane [] boot (k, x, l, e, p) = absurd (omega (arith, l))
-no_lane (w ∷ ws) boot (zero, x, l, e, p) = let none : bearer x ≡ 0 = ap bearer (sym e) ∙ boot.0 in absurd (omega (arith, none, p))
+no_lane (w ∷ ws) boot (zero, x, l, e, p) = let none : caller_of_word x ≡ 0 = ap caller_of_word (sym e) ∙ boot.0 in absurd (omega (arith, none, p))
 no_lane (w ∷ ws) boot (suc k, x, l, e, p) = no_lane ws boot.1 (k, x, omega (arith, l), e, p)
 
 first_of : (x y : ℕ) (xs ys : List ℕ) → x ∷ xs ≡ y ∷ ys → x ≡ y
@@ -175,17 +175,17 @@ rest_of : (x y : ℕ) (xs ys : List ℕ) → x ∷ xs ≡ y ∷ ys → xs ≡ ys
 rest_of x y xs ys e = cc
 
 -- a lane's word and all after it are lanes'
-pub lanes_from : (lanes : ℕ) (boot others ws : List ℕ) (w : ℕ) (more : List ℕ) → ws ++ w ∷ more ≡ boot ++ others → AllByRecursion IsBoot boot → AllByRecursion (IsOfLane lanes) others → 1 ≤ bearer w
+pub lanes_from : (lanes : ℕ) (boot others ws : List ℕ) (w : ℕ) (more : List ℕ) → ws ++ w ∷ more ≡ boot ++ others → AllByRecursion IsBoot boot → AllByRecursion (IsOfLane lanes) others → 1 ≤ caller_of_word w
     → AllByRecursion (IsOfLane lanes) (w ∷ more)
 lanes_from lanes [] others ws w more e b o h = all_after (IsOfLane lanes) ws (w ∷ more) (subst (AllByRecursion (IsOfLane lanes)) (sym e) o)
-lanes_from lanes (x ∷ boot) others [] w more e b o h = let z : bearer w ≡ 0 = ap bearer (first_of w x _ _ e) ∙ b.0 in absurd (omega (arith, z, h))
+lanes_from lanes (x ∷ boot) others [] w more e b o h = let z : caller_of_word w ≡ 0 = ap caller_of_word (first_of w x _ _ e) ∙ b.0 in absurd (omega (arith, z, h))
 lanes_from lanes (x ∷ boot) others (v ∷ ws) w more e b o h = lanes_from lanes boot others ws w more (rest_of v x _ _ e) b.1 o h
 
-none_of_boot : (lanes : ℕ) (ws : List ℕ) → AllByRecursion (IsOfLane lanes) ws → filter (λ w. bearer w == 0) ws ≡ []
+none_of_boot : (lanes : ℕ) (ws : List ℕ) → AllByRecursion (IsOfLane lanes) ws → filter (λ w. caller_of_word w == 0) ws ≡ []
 none_of_boot lanes [] h = refl
 none_of_boot lanes (w ∷ ws) h =
     let l = h.0.0 in
-    ap (λ t. cond t (w ∷ filter (λ v. bearer v == 0) ws) (filter (λ v. bearer v == 0) ws)) (ne_eqb (bearer w) 0 (λ e. omega (arith, e, l))) ∙ none_of_boot lanes ws h.1
+    ap (λ t. cond t (w ∷ filter (λ v. caller_of_word v == 0) ws) (filter (λ v. caller_of_word v == 0) ws)) (ne_eqb (caller_of_word w) 0 (λ e. omega (arith, e, l))) ∙ none_of_boot lanes ws h.1
 
 -- lanes' words add nothing to the boot section's record
 pub boot_same : (script : ScriptOf) (lanes : ℕ) (words more : List ℕ) → AllByRecursion (IsOfLane lanes) more
@@ -193,10 +193,10 @@ pub boot_same : (script : ScriptOf) (lanes : ℕ) (words more : List ℕ) → Al
 boot_same script lanes words more h = events-of-beginning state_after_word reply_to_word 0 (fabric_at_reset script.shapes) words more (none_of_boot lanes more h)
 
 -- each word is the boot section's or a lane's
-pub is_of_some : (lanes : ℕ) (boot others ws : List ℕ) (w : ℕ) (more : List ℕ) → ws ++ w ∷ more ≡ boot ++ others → AllByRecursion IsBoot boot → AllByRecursion (IsOfLane lanes) others → bearer w ≤ lanes
-is_of_some lanes boot others ws w more e b o = by (bearer w) refl
+pub is_of_some : (lanes : ℕ) (boot others ws : List ℕ) (w : ℕ) (more : List ℕ) → ws ++ w ∷ more ≡ boot ++ others → AllByRecursion IsBoot boot → AllByRecursion (IsOfLane lanes) others → caller_of_word w ≤ lanes
+is_of_some lanes boot others ws w more e b o = by (caller_of_word w) refl
   where
-    by : (n : ℕ) → bearer w ≡ n → bearer w ≤ lanes
+    by : (n : ℕ) → caller_of_word w ≡ n → caller_of_word w ≤ lanes
     by zero p = omega (arith, p)
     by (suc n) p = (lanes_from lanes boot others ws w more e b o (omega (arith, p))).0.1
 

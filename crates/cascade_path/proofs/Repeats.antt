@@ -9,7 +9,7 @@ use Rattle.event_words.specs.declared.reply.Reply.TheVariants as replies
 use Rattle.event_words.specs.declared.record.LoggedEvent.{LoggedEvent}
 use Rattle.event_words.specs.Word.{kind_code}
 use Rattle.event_words.specs.Events.{same_event}
-use Rattle.event_words.specs.Records.{first_as, judgements, is_held}
+use Rattle.event_words.specs.Records.{take_event, judgements, is_held}
 
 eqb-refl : (n : ℕ) → eqb n n ≡ true
 eqb-refl n = eq-eqb n n refl
@@ -26,8 +26,8 @@ same_event-refl (events.Judge u c p) = both _ _ (eqb-refl u) (both _ _ (eqb-refl
 same_event-refl (events.Aim c a) = both _ _ (eqb-refl c) (eqb-refl a)
 same_event-refl (events.Wide u c r k n) = both _ _ (eqb-refl u) (both _ _ (eqb-refl c) (both _ _ (eqb-refl r) (both _ _ (eqb-refl (kind_code k)) (eqb-refl n))))
 
-pub first_as-cons : (e : Event) (x : LoggedEvent) (xs : List LoggedEvent) → x.event ≡ e → first_as e (x ∷ xs) ≡ Some (x, xs)
-first_as-cons e x xs is = ap (λ (t : Bool). cond t (Some (x, xs)) None) (ap (same_event e) is ∙ same_event-refl e)
+pub take_event-cons : (e : Event) (x : LoggedEvent) (xs : List LoggedEvent) → x.event ≡ e → take_event e (x ∷ xs) ≡ Some (x, xs)
+take_event-cons e x xs is = ap (λ (t : Bool). cond t (Some (x, xs)) None) (ap (same_event e) is ∙ same_event-refl e)
 
 -- What up to n judgements more give, after judgements that all replied Held.
 abbrev pub judgements_left : ℕ → Event → List LoggedEvent → Option (Reply × List LoggedEvent)

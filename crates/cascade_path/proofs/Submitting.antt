@@ -10,13 +10,13 @@ use Rattle.event_words.specs.declared.reply.Reply.{Reply}
 use Rattle.event_words.specs.declared.reply.Reply.TheVariants as replies
 use Rattle.event_words.specs.declared.record.LoggedEvent.{LoggedEvent}
 use Rattle.event_words.specs.Events.{same_event}
-use Rattle.event_words.specs.Records.{first_as, is_aimed, one_stage, stage_piece, aimed_piece, wide_event}
+use Rattle.event_words.specs.Records.{take_event, is_aimed, one_stage, stage_piece, aimed_piece, wide_event}
 use Rattle.event_words.specs.Sections.{submission_events}
 use Rattle.event_words.specs.Valid.{is_narrow}
 use Rattle.cascade_path.specs.Answers.{begins, is_beginning, submission_answer, answer_to, event_answer}
 use Rattle.cascade_path.specs.Stages.{IsSubmission, IsRefusedAim, is_undecided, waits}
 use Rattle.cascade_path.proofs.Causes.{count-append}
-use Rattle.cascade_path.proofs.Repeats.{first_as-cons}
+use Rattle.cascade_path.proofs.Repeats.{take_event-cons}
 use Rattle.cascade_path.proofs.SameEvents.{one_submit, one_aim, one_wide}
 use Rattle.cascade_path.proofs.Turns.{by_bool}
 
@@ -68,29 +68,29 @@ submission_decides u c a before last stage (inr s) = ap (λ (e : Event). answer_
 
 abbrev by_width : Bool → ℕ → ℕ → ℕ → Access → Go → Events → Option Events
 by_width narrow n max u a go xs =
-    if narrow then stage_piece n max u go (first_as (events.Submit u n a) xs)
-    else aimed_piece n max u go (wide_event u n a) (first_as (events.Aim n a.addr) xs)
+    if narrow then stage_piece n max u go (take_event (events.Submit u n a) xs)
+    else aimed_piece n max u go (wide_event u n a) (take_event (events.Aim n a.addr) xs)
 
 abbrev if_aimed : Bool → ℕ → ℕ → ℕ → Access → Go → Events → Option Events
-if_aimed aimed n max u a go xs = if aimed then stage_piece n max u go (first_as (wide_event u n a) xs) else Some xs
+if_aimed aimed n max u a go xs = if aimed then stage_piece n max u go (take_event (wide_event u n a) xs) else Some xs
 
 pub stage_submitted : (n max u : ℕ) (a : Access) (go : Go) (before : Events) (last : LoggedEvent) (rest : Events) → IsSubmission u n a before last
     → one_stage n max u a go ((before ++ last ∷ []) ++ rest) ≡ stage_piece n max u go (Some (last, rest))
 stage_submitted n max u a go before last rest (inl s) =
     ap (λ (l : Events). one_stage n max u a go ((l ++ last ∷ []) ++ rest)) s.alone
     ∙ ap (λ (z : Bool). by_width z n max u a go (last ∷ rest)) s.narrow
-    ∙ ap (stage_piece n max u go) (first_as-cons (events.Submit u n a) last rest s.event)
+    ∙ ap (stage_piece n max u go) (take_event-cons (events.Submit u n a) last rest s.event)
 stage_submitted n max u a go before last rest (inr s) =
     ap (λ (l : Events). one_stage n max u a go ((l ++ last ∷ []) ++ rest)) s.after_aim
     ∙ ap (λ (z : Bool). by_width z n max u a go (s.aim ∷ last ∷ rest)) s.wide
-    ∙ ap (aimed_piece n max u go (wide_event u n a)) (first_as-cons (events.Aim n a.addr) s.aim (last ∷ rest) s.aims)
+    ∙ ap (aimed_piece n max u go (wide_event u n a)) (take_event-cons (events.Aim n a.addr) s.aim (last ∷ rest) s.aims)
     ∙ ap (λ (r : Reply). if_aimed (is_aimed r) n max u a go (last ∷ rest)) s.aimed
-    ∙ ap (stage_piece n max u go) (first_as-cons (wide_event u n a) last rest s.event)
+    ∙ ap (stage_piece n max u go) (take_event-cons (wide_event u n a) last rest s.event)
 
 pub stage_unaimed : (n max u : ℕ) (a : Access) (go : Go) (x : LoggedEvent) (rest : Events) → IsRefusedAim n a x → one_stage n max u a go (x ∷ rest) ≡ Some rest
 stage_unaimed n max u a go x rest r =
     ap (λ (z : Bool). by_width z n max u a go (x ∷ rest)) r.wide
-    ∙ ap (aimed_piece n max u go (wide_event u n a)) (first_as-cons (events.Aim n a.addr) x rest r.aims)
+    ∙ ap (aimed_piece n max u go (wide_event u n a)) (take_event-cons (events.Aim n a.addr) x rest r.aims)
     ∙ ap (λ (z : Bool). if_aimed z n max u a go rest) r.refused
 
 -- ---- the other way: how a stage's record begins
@@ -101,9 +101,9 @@ record BeginsAs (e : Event) (xs : Events) : Type 0 where
   rest : Events
   is : xs ≡ first ∷ rest
   same : same_event e first.event ≡ true
-  found : first_as e xs ≡ Some (first, rest)
+  found : take_event e xs ≡ Some (first, rest)
 
-begins_as : (e : Event) (xs : Events) → (first_as e xs ≡ None) ⊎ BeginsAs e xs
+begins_as : (e : Event) (xs : Events) → (take_event e xs ≡ None) ⊎ BeginsAs e xs
 begins_as e [] = inl refl
 begins_as e (x ∷ xs) = by_bool (same_event e x.event)
     (λ same. inr (record { first = x; rest = xs; is = refl; same = same; found = ap (λ (t : Bool). cond t (Some (x, xs)) None) same }))
@@ -133,9 +133,9 @@ stage_begins n max u a go xs ys h = by_bool (is_narrow a) narrow wide
     narrow : is_narrow a ≡ true → StageRefused n a xs ys ⊎ StageSubmitted n max u a go xs ys
     narrow w =
         let e : Event = events.Submit u n a in
-        let there : stage_piece n max u go (first_as e xs) ≡ Some ys = subst (λ (z : Bool). by_width z n max u a go xs ≡ Some ys) w h in
+        let there : stage_piece n max u go (take_event e xs) ≡ Some ys = subst (λ (z : Bool). by_width z n max u a go xs ≡ Some ys) w h in
         ⊎_elim
-        (λ (none : first_as e xs ≡ None). absurd (nothing_first ys (stage_piece n max u go (first_as e xs)) (ap (stage_piece n max u go) none) there))
+        (λ (none : take_event e xs ≡ None). absurd (nothing_first ys (stage_piece n max u go (take_event e xs)) (ap (stage_piece n max u go) none) there))
         (λ (b : BeginsAs e xs). inr (record {
           before = [];
           last = b.first;
@@ -146,11 +146,11 @@ stage_begins n max u a go xs ys h = by_bool (is_narrow a) narrow wide
         }))
         (begins_as e xs)
 
-    second : is_narrow a ≡ false → (b : BeginsAs (events.Aim n a.addr) xs) → is_aimed b.first.reply ≡ true → stage_piece n max u go (first_as (wide_event u n a) b.rest) ≡ Some ys → StageRefused n a xs ys ⊎ StageSubmitted n max u a go xs ys
+    second : is_narrow a ≡ false → (b : BeginsAs (events.Aim n a.addr) xs) → is_aimed b.first.reply ≡ true → stage_piece n max u go (take_event (wide_event u n a) b.rest) ≡ Some ys → StageRefused n a xs ys ⊎ StageSubmitted n max u a go xs ys
     second w b aimed there =
         let e : Event = wide_event u n a in
         ⊎_elim
-        (λ (none : first_as e b.rest ≡ None). absurd (nothing_first ys (stage_piece n max u go (first_as e b.rest)) (ap (stage_piece n max u go) none) there))
+        (λ (none : take_event e b.rest ≡ None). absurd (nothing_first ys (stage_piece n max u go (take_event e b.rest)) (ap (stage_piece n max u go) none) there))
         (λ (c : BeginsAs e b.rest). inr (record {
           before = b.first ∷ [];
           last = c.first;
@@ -182,9 +182,9 @@ stage_begins n max u a go xs ys h = by_bool (is_narrow a) narrow wide
     wide : is_narrow a ≡ false → StageRefused n a xs ys ⊎ StageSubmitted n max u a go xs ys
     wide w =
         let e : Event = events.Aim n a.addr in
-        let there : aimed_piece n max u go (wide_event u n a) (first_as e xs) ≡ Some ys = subst (λ (z : Bool). by_width z n max u a go xs ≡ Some ys) w h in
+        let there : aimed_piece n max u go (wide_event u n a) (take_event e xs) ≡ Some ys = subst (λ (z : Bool). by_width z n max u a go xs ≡ Some ys) w h in
         ⊎_elim
-        (λ (none : first_as e xs ≡ None). absurd (nothing_first ys (aimed_piece n max u go (wide_event u n a) (first_as e xs)) (ap (aimed_piece n max u go (wide_event u n a)) none) there))
+        (λ (none : take_event e xs ≡ None). absurd (nothing_first ys (aimed_piece n max u go (wide_event u n a) (take_event e xs)) (ap (aimed_piece n max u go (wide_event u n a)) none) there))
         (λ (b : BeginsAs e xs).
         let after : if_aimed (is_aimed b.first.reply) n max u a go b.rest ≡ Some ys = sym (ap (aimed_piece n max u go (wide_event u n a)) b.found) ∙ there in
         by_bool (is_aimed b.first.reply)

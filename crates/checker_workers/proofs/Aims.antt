@@ -12,12 +12,12 @@ use Rattle.event_words.specs.declared.record.LoggedEvent.{LoggedEvent}
 use Rattle.event_words.specs.Events.{caller_of}
 use Rattle.event_words.specs.Records.{events_by, wide_event}
 use Rattle.event_words.specs.Runs.{run_from, logged_from, logged_first}
-use Rattle.event_words.specs.Word.{event_at}
+use Rattle.event_words.specs.Word.{event_of_word}
 use Rattle.event_words.proofs.Runs.{events-of-beginning}
 use Rattle.unit_core.specs.Units.{FabricState, aim_of, aims_after, no_aims, submission_of, taken_step, fabric_step, decoded_step}
 use Rattle.unit_core.specs.Fabrics.{state_after_word, reply_to_word}
 use Rattle.cascade_path.proofs.Turns.{by_bool}
-use Rattle.checker_workers.specs.Ports.{PortView, IsAtReset, MakesEvent, own_events, state_after, unit_count}
+use Rattle.checker_workers.specs.Ports.{PortView, IsAtReset, MakesEvent, port_events, state_after, unit_count}
 use Rattle.checker_workers.proofs.Making.{Answers, answers, ComesAs}
 
 abbrev Events : Type 0
@@ -99,7 +99,7 @@ goes c k s w ws h rest (Some e) =
 
 aims_by : (c k : ℕ) (s : FabricState) (words : List ℕ) → c < length s.aims → AimsSo c k s words
 aims_by c k s [] h = refl
-aims_by c k s (w ∷ ws) h = goes c k s w ws h (λ next l. aims_by c (suc k) next ws l) (event_at w)
+aims_by c k s (w ∷ ws) h = goes c k s w ws h (λ next l. aims_by c (suc k) next ws l) (event_of_word w)
 
 -- ---- at a port
 
@@ -110,7 +110,7 @@ no_aim : (s : FabricState) (c : ℕ) → IsAtReset s → aim_of s.aims c ≡ aim
 no_aim s c r = ap (λ (x : FabricState). aim_of x.aims c) r.is
 
 -- An event of a port, of whose own events before it the last is an Aim, finds the address of that Aim.
-pub aims_there : (p q : PortView) (e : Event) (r : Reply) (m : MakesEvent p e r q) (earlier : Events) (x : LoggedEvent) (c addr : ℕ) → IsAtReset p.first → p.number < 32 → own_events p ≡ earlier ++ x ∷ [] → x.event ≡ events.Aim c addr
+pub aims_there : (p q : PortView) (e : Event) (r : Reply) (m : MakesEvent p e r q) (earlier : Events) (x : LoggedEvent) (c addr : ℕ) → IsAtReset p.first → p.number < 32 → port_events p ≡ earlier ++ x ∷ [] → x.event ≡ events.Aim c addr
     → aim_of (state_after p (p.log ++ m.between)).aims p.number ≡ addr
 aims_there p q e r m earlier x c addr reset small own is =
     aims_by p.number 0 p.first (p.log ++ m.between) (let l = many_aims p.first reset in omega arith)
@@ -130,7 +130,7 @@ wide_comes k s unit caller a fits aims =
 
 -- What a port's Wide replies, where an Aim of its address is the port's event before it.
 pub wide_answers : (p q : PortView) (unit caller : ℕ) (a : Access) (r : Reply) (m : MakesEvent p (wide_event unit caller a) r q) (earlier : Events) (x : LoggedEvent) (c : ℕ) → IsAtReset p.first → p.number < 32 → caller ≡ p.number → a.addr + a.len ≤ 2 ^ 52
-    → own_events p ≡ earlier ++ x ∷ [] → x.event ≡ events.Aim c a.addr → unit < unit_count p → Answers p (p.log ++ m.between) (events.Submit unit caller a) unit r
+    → port_events p ≡ earlier ++ x ∷ [] → x.event ≡ events.Aim c a.addr → unit < unit_count p → Answers p (p.log ++ m.between) (events.Submit unit caller a) unit r
 wide_answers p q unit caller a r m earlier x c reset small own_number fits own is there =
     let words : List ℕ = p.log ++ m.between in
     let aims : aim_of (state_after p words).aims caller ≡ a.addr = ap (aim_of (state_after p words).aims) own_number ∙ aims_there p q (wide_event unit caller a) r m earlier x c a.addr reset small own is in

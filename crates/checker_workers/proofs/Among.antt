@@ -16,7 +16,7 @@ use Rattle.shared_log.specs.Words.{AllEventWords}
 use Rattle.shared_log.proofs.WordLists.{AllEventWords-left, AllEventWords-right}
 use Rattle.event_words.proofs.EventWords.{HasEvent, word_event}
 use Rattle.cascade_path.proofs.Turns.{by_bool}
-use Rattle.checker_workers.specs.Ports.{PortView, MakesEvent, own_events}
+use Rattle.checker_workers.specs.Ports.{PortView, MakesEvent, port_events}
 use Rattle.checker_workers.proofs.Making.{makes_event}
 
 -- ---- one caller's events of words
@@ -129,11 +129,11 @@ own_of n st log words =
     ∙ events_by-append state_after_word reply_to_word n (logs 0 st log) (logs (0 + length log) (run state_after_word st log) words)
     ∙ ap (λ (k : ℕ). events_by n (logs 0 st log) ++ events_by n (logs k (run state_after_word st log) words)) (zero-add (length log))
 
-pub extends : (p q : PortView) (made : Events) (words : List ℕ) → own_events q ≡ own_events p ++ made → q.log ≡ p.log ++ words → q.number ≡ p.number → q.first ≡ p.first → Extends p made q
+pub extends : (p q : PortView) (made : Events) (words : List ℕ) → port_events q ≡ port_events p ++ made → q.log ≡ p.log ++ words → q.number ≡ p.number → q.first ≡ p.first → Extends p made q
 extends p q made words own log number first = record {
   words = words;
   log = log;
-  own = append_cancel_left (own_events p) _ made
+  own = append_cancel_left (port_events p) _ made
       (sym (own_of p.number p.first p.log words)
       ∙ ap (λ (l : List ℕ). events_by p.number (logs 0 p.first l)) (sym log)
       ∙ ap (λ (st : FabricState). events_by p.number (logs 0 st q.log)) (sym first)
@@ -147,7 +147,7 @@ extends p q made words own log number first = record {
 pub record StandsAmong (p q : PortView) (before : Events) (x : LoggedEvent) (later : Events) : Type 0 where
   pub at : PortView
   pub next : PortView
-  pub own : own_events at ≡ own_events p ++ before
+  pub own : port_events at ≡ port_events p ++ before
   pub number : at.number ≡ p.number
   pub first : at.first ≡ p.first
   pub grown : length p.log ≤ x.place
@@ -184,7 +184,7 @@ stands p q before x later h all =
     } in record {
       at = at;
       next = next;
-      own = own_of p.number p.first p.log t.earlier ∙ ap (λ (l : Events). own_events p ++ l) t.before_is;
+      own = own_of p.number p.first p.log t.earlier ∙ ap (λ (l : Events). port_events p ++ l) t.before_is;
       number = refl;
       first = refl;
       grown = let k = t.place in omega arith;

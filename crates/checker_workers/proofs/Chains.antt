@@ -17,7 +17,7 @@ use Rattle.event_words.specs.Records.{is_aimed, is_taken, is_verdict, judgements
 use Rattle.event_words.specs.Runs.{logged_from, logged_first}
 use Rattle.event_words.specs.Sections.{IsBelow}
 use Rattle.event_words.specs.Valid.{IsValidEvent}
-use Rattle.event_words.specs.Word.{event_at}
+use Rattle.event_words.specs.Word.{event_of_word}
 use Rattle.unit_core.specs.Units.{FabricState}
 use Rattle.unit_core.specs.Fabrics.{state_after_word, reply_to_word}
 use Rattle.shared_log.specs.Words.{AllEventWords}
@@ -31,7 +31,7 @@ use Rattle.cascade_path.proofs.Causes.{last-append}
 use Rattle.cascade_path.proofs.LastStage.{LastStage, EndsUnaimed, EndsRefused, EndsJudged, borne_by, last_stage_of}
 use Rattle.cascade_path.proofs.Submitting.{Go, StageRefused, StageSubmitted, stage_begins, submission_decides}
 use Rattle.cascade_path.proofs.Turns.{by_bool, IsHeldJudgement, AreJudgements, BeginsWithJudgements, begins_with_judgements}
-use Rattle.checker_workers.specs.Ports.{PortView, EndWhole, IsAtReset, MakesEvent, is_aim, is_aim_logged, own_events, unit_count}
+use Rattle.checker_workers.specs.Ports.{PortView, EndWhole, IsAtReset, MakesEvent, is_aim, is_aim_logged, port_events, unit_count}
 use Rattle.checker_workers.specs.TicketViews.{TicketView}
 use Rattle.checker_workers.specs.Tickets.{IsOpenTicket, is_end, is_submit_reply, last_ticket, submits_on}
 use Rattle.checker_workers.specs.Pieces.{PlaysThrough}
@@ -139,9 +139,9 @@ wide_answered p q earlier before later x unit a w s there reset fits =
     let m : MakesEvent s.at e x.reply s.next = subst (λ (v : Event). MakesEvent s.at v x.reply s.next) w.event s.event in
     let valid : IsValidEvent e = subst IsValidEvent w.event s.valid in
     let small : s.at.number < 32 = let c = valid.0.caller_below in let n = s.number in omega arith in
-    let own : own_events s.at ≡ (own_events p ++ earlier) ++ w.aim ∷ [] =
-    s.own ∙ ap (λ (l : Events). own_events p ++ (earlier ++ l)) w.after_aim ∙ sym (append_assoc (own_events p) earlier (w.aim ∷ [])) in
-    let an = wide_answers s.at s.next unit p.number a x.reply m (own_events p ++ earlier) w.aim p.number (reset_at p s.at s.first reset) small (sym s.number) fits own w.aims (below_at p s.at unit s.first there) in record {
+    let own : port_events s.at ≡ (port_events p ++ earlier) ++ w.aim ∷ [] =
+    s.own ∙ ap (λ (l : Events). port_events p ++ (earlier ++ l)) w.after_aim ∙ sym (append_assoc (port_events p) earlier (w.aim ∷ [])) in
+    let an = wide_answers s.at s.next unit p.number a x.reply m (port_events p ++ earlier) w.aim p.number (reset_at p s.at s.first reset) small (sym s.number) fits own w.aims (below_at p s.at unit s.first there) in record {
       stands_so = s;
       submits = ap (submits_on unit p.number) w.event ∙ on_unit unit p.number;
       reply = ap is_submit_reply an.reply ∙ submit_reply (length (s.at.log ++ m.between)) an.unit p.number a;
@@ -252,7 +252,7 @@ first_past k n c r (Some e) xs h rest = by_past k c (record { place = n; event =
 -- No event of words stands before the first of them.
 all_past : (k n c : ℕ) (s : FabricState) (words : List ℕ) → k ≤ n → AllByRecursion (IsPast k) (events_by c (logged_from state_after_word reply_to_word n s words))
 all_past k n c s [] h = tt
-all_past k n c s (w ∷ ws) h = first_past k n c (reply_to_word s n w) (event_at w) (logged_from state_after_word reply_to_word (suc n) (state_after_word s n w) ws) h (all_past k (suc n) c (state_after_word s n w) ws (omega arith))
+all_past k n c s (w ∷ ws) h = first_past k n c (reply_to_word s n w) (event_of_word w) (logged_from state_after_word reply_to_word (suc n) (state_after_word s n w) ws) h (all_past k (suc n) c (state_after_word s n w) ws (omega arith))
 
 all_after : (P : LoggedEvent → Type 0) (xs ys : Events) → AllByRecursion P (xs ++ ys) → AllByRecursion P ys
 all_after P [] ys h = h

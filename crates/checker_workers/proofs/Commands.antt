@@ -12,7 +12,7 @@ use Rattle.event_words.specs.declared.record.LoggedEvent.{LoggedEvent}
 use Rattle.event_words.specs.declared.section.Command.{Command}
 use Rattle.event_words.specs.declared.section.Command.TheVariants as commands
 use Rattle.event_words.specs.declared.section.Stages.{Stages}
-use Rattle.event_words.specs.Records.{OpenSlot, Cut, first_as, second_as, submission_as, wide_event, is_taken, one_piece, submit_piece, settle_piece, settled, until_piece, through_piece, opened_slot, slot_of, judgements}
+use Rattle.event_words.specs.Records.{OpenSlot, Cut, take_event, take_event_after, take_submission, wide_event, is_taken, one_piece, submit_piece, settle_piece, settled, until_piece, through_piece, opened_slot, slot_of, judgements}
 use Rattle.event_words.specs.Sections.{NamesUnits, stage_units, submission_events}
 use Rattle.cascade_path.specs.declared.chain.ChainReply.{ChainReply}
 use Rattle.cascade_path.specs.Stages.{IsSubmission}
@@ -20,7 +20,7 @@ use Rattle.cascade_path.proofs.Submitting.{submission_count}
 use Rattle.checker_workers.specs.declared.ticket.Submitted.{Submitted}
 use Rattle.checker_workers.specs.declared.ticket.Submitted.TheVariants as submitted
 use Rattle.checker_workers.specs.declared.ticket.Judged.TheVariants.{Done, Held}
-use Rattle.cascade_path.proofs.Repeats.{first_as-cons}
+use Rattle.cascade_path.proofs.Repeats.{take_event-cons}
 use Rattle.checker_workers.specs.Ports.{PortView, MakesEvent, is_aim, unit_count}
 use Rattle.checker_workers.specs.TicketViews.{TicketView}
 use Rattle.checker_workers.specs.Tickets.{IsOpenTicket, MakesSubmission, HandsOut, submitted_reply, last_ticket}
@@ -49,7 +49,7 @@ plays_write p q table unit index value r m h =
       adds = a;
       whole = refl;
       few = omega arith;
-      record_is = λ rest. ap (one_piece (slots_of table)) (first_as-cons e x rest refl);
+      record_is = λ rest. ap (one_piece (slots_of table)) (take_event-cons e x rest refl);
       tickets = table_kept p q (x ∷ []) table a (λ i t g. none_more t [] x refl (ends_other t x refl)) h;
     }
 
@@ -62,14 +62,14 @@ plays_read p q table unit index r m h =
       adds = a;
       whole = refl;
       few = omega arith;
-      record_is = λ rest. ap (one_piece (slots_of table)) (first_as-cons e x rest refl);
+      record_is = λ rest. ap (one_piece (slots_of table)) (take_event-cons e x rest refl);
       tickets = table_kept p q (x ∷ []) table a (λ i t g. none_more t [] x refl (ends_other t x refl)) h;
     }
 
 -- ---- submissions
 
 abbrev by_width : Bool → ℕ → ℕ → Access → List LoggedEvent → Option (LoggedEvent × List LoggedEvent)
-by_width narrow unit n a xs = if narrow then first_as (events.Submit unit n a) xs else second_as (wide_event unit n a) (first_as (events.Aim n a.addr) xs)
+by_width narrow unit n a xs = if narrow then take_event (events.Submit unit n a) xs else take_event_after (wide_event unit n a) (take_event (events.Aim n a.addr) xs)
 
 -- its last event is no Aim
 no_aim : (unit n : ℕ) (a : Access) (before : List LoggedEvent) (x : LoggedEvent) → IsSubmission unit n a before x → is_aim x.event ≡ false
@@ -77,16 +77,16 @@ no_aim unit n a before x (inl s) = ap is_aim s.event
 no_aim unit n a before x (inr s) = ap is_aim s.event
 
 -- The first events are those of the submission.
-submission_first : (unit n : ℕ) (a : Access) (before : List LoggedEvent) (x : LoggedEvent) (rest : List LoggedEvent) → IsSubmission unit n a before x → submission_as unit n a ((before ++ x ∷ []) ++ rest) ≡ Some (x, rest)
+submission_first : (unit n : ℕ) (a : Access) (before : List LoggedEvent) (x : LoggedEvent) (rest : List LoggedEvent) → IsSubmission unit n a before x → take_submission unit n a ((before ++ x ∷ []) ++ rest) ≡ Some (x, rest)
 submission_first unit n a before x rest (inl s) =
-    ap (λ (l : List LoggedEvent). submission_as unit n a ((l ++ x ∷ []) ++ rest)) s.alone
+    ap (λ (l : List LoggedEvent). take_submission unit n a ((l ++ x ∷ []) ++ rest)) s.alone
     ∙ ap (λ (z : Bool). by_width z unit n a (x ∷ rest)) s.narrow
-    ∙ first_as-cons (events.Submit unit n a) x rest s.event
+    ∙ take_event-cons (events.Submit unit n a) x rest s.event
 submission_first unit n a before x rest (inr s) =
-    ap (λ (l : List LoggedEvent). submission_as unit n a ((l ++ x ∷ []) ++ rest)) s.after_aim
+    ap (λ (l : List LoggedEvent). take_submission unit n a ((l ++ x ∷ []) ++ rest)) s.after_aim
     ∙ ap (λ (z : Bool). by_width z unit n a (s.aim ∷ x ∷ rest)) s.wide
-    ∙ ap (second_as (wide_event unit n a)) (first_as-cons (events.Aim n a.addr) s.aim (x ∷ rest) s.aims)
-    ∙ first_as-cons (wide_event unit n a) x rest s.event
+    ∙ ap (take_event_after (wide_event unit n a)) (take_event-cons (events.Aim n a.addr) s.aim (x ∷ rest) s.aims)
+    ∙ take_event-cons (wide_event unit n a) x rest s.event
 
 -- the slot that is opened is that of the ticket
 same_slot : (p q : PortView) (unit : ℕ) (a : Access) (s : Submitted) (m : SubmissionMade p unit a (submitted_reply s) q) → HandsOut q unit s → opened_slot unit m.last ≡ slot_of_ticket (ticket_of s)

@@ -13,21 +13,21 @@ use Rattle.event_words.specs.Events.{unit_of, caller_of}
 use Rattle.event_words.specs.Guards.{reg}
 use Rattle.event_words.specs.Registers.{has_bit}
 use Rattle.event_words.specs.Valid.{IsValidEvent}
-use Rattle.event_words.specs.Word.{word_of, event_at}
+use Rattle.event_words.specs.Word.{word_of, event_of_word}
 use Rattle.event_words.specs.Runs.{run_from}
-use Rattle.event_words.proofs.Runs.{event_at-word_of}
+use Rattle.event_words.proofs.Runs.{event_of_word-word_of}
 use Rattle.unit_core.specs.Units.{UnitState, FabricState, unit_at_reset, unit_step, event_step, taken_as, taken_step, step_at, step_on, fabric_step, decoded_step, submit_step, is_stalled, queue_length, opened, denied, stall_denial}
 use Rattle.unit_core.specs.Fabrics.{state_after_word, reply_to_word}
 use Rattle.shared_log.specs.Callers.{AfterCall}
 use Rattle.shared_log.proofs.Histories.{own_events-after-call}
-use Rattle.checker_workers.specs.Ports.{PortView, IsAtReset, MakesEvent, own_events, logged_at, state_after, units_after, unit_count, is_value}
+use Rattle.checker_workers.specs.Ports.{PortView, IsAtReset, MakesEvent, port_events, logged_at, state_after, units_after, unit_count, is_value}
 use Rattle.checker_workers.specs.Tickets.{is_submit_reply}
 
 pub few_units : (s : FabricState) → IsAtReset s → length s.units ≤ 4
 few_units s r = let few = r.few in let e = ap (λ (x : FabricState). length x.units) r.is in omega (arith, length-map r.shapes unit_at_reset)
 
 pub reply_of_event : (k : ℕ) (s : FabricState) (e : Event) → IsValidEvent e → reply_to_word s k (word_of e) ≡ (fabric_step k s e).1
-reply_of_event k s e valid = ap (λ (o : Option Event). (decoded_step k s o).1) (event_at-word_of e valid)
+reply_of_event k s e valid = ap (λ (o : Option Event). (decoded_step k s o).1) (event_of_word-word_of e valid)
 
 pub makes_event : (p q : PortView) (e : Event) (r : Reply) → AfterCall state_after_word reply_to_word p (word_of e) r q → q.machine.state ≡ state_after q q.log → IsValidEvent e → caller_of e ≡ p.number
     → MakesEvent p e r q
@@ -71,7 +71,7 @@ decoded_count k s (Some e) = event_count k s.aims s.units e
 
 run_count : (k : ℕ) (s : FabricState) (ws : List ℕ) → length (run_from state_after_word k s ws).units ≡ length s.units
 run_count k s [] = refl
-run_count k s (w ∷ ws) = run_count (suc k) (state_after_word s k w) ws ∙ decoded_count k s (event_at w)
+run_count k s (w ∷ ws) = run_count (suc k) (state_after_word s k w) ws ∙ decoded_count k s (event_of_word w)
 
 -- ---- the unit of an event
 
@@ -130,7 +130,7 @@ with_reply p q e r r' m is = record {
   others = m.others;
   log = m.log;
   answered = sym is ∙ m.answered;
-  own = m.own ∙ ap (λ (x : Reply). own_events p ++ logged_at (length (p.log ++ m.between)) e x ∷ []) is;
+  own = m.own ∙ ap (λ (x : Reply). port_events p ++ logged_at (length (p.log ++ m.between)) e x ∷ []) is;
   replica = m.replica;
   left = m.left;
   same = m.same;

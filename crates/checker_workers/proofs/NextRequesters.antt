@@ -20,7 +20,7 @@ use Rattle.event_words.specs.Guards.{guarded_bits, reg}
 use Rattle.event_words.specs.Registers.{has_bit}
 use Rattle.event_words.specs.Runs.{run}
 use Rattle.event_words.specs.Valid.{IsValidEvent, IsValidShape}
-use Rattle.event_words.specs.Word.{word_of, event_at as event_of_word}
+use Rattle.event_words.specs.Word.{word_of, event_of_word}
 use Rattle.unit_core.specs.declared.Submission.{Submission}
 use Rattle.unit_core.specs.Submissions.{SubmittedAccess, submitted, is_item}
 use Rattle.unit_core.specs.Units.{UnitState, FabricState, unit_at_reset, fabric_at_reset, unit_step, step_at, step_on, taken_as, taken_step, wide_access, next_rrid, judge_item, verdict_step, closed, stall_denial, is_stalled, queue_length}
@@ -28,7 +28,7 @@ use Rattle.unit_core.specs.Fabrics.{state_after_word, reply_to_word}
 use Rattle.unit_core.specs.Histories.{History, after_event, aims_at, units_at, event_at, reply_at, history_of}
 use Rattle.shared_log.specs.Words.{AllEventWords}
 use Rattle.history_laws.specs.Verdicts.{verdict_of, IsDecided}
-use Rattle.event_words.proofs.Runs.{event_at-word_of}
+use Rattle.event_words.proofs.Runs.{event_of_word-word_of}
 use Rattle.history_laws.proofs.QueueLaw.{written-shape, recorded-shape}
 use Rattle.history_laws.proofs.VerdictLaw.{law_verdicts}
 use Rattle.history_laws.proofs.WordHistories.{events_at_words, event_at_words, reply_at_words, word_at_place}
@@ -178,7 +178,7 @@ allowed_next p q u c s next m reset all valid =
     let replied : reply_to_word (run state_after_word (fabric_at_reset shapes) words) (length words) w ≡ replies.Verdict (verdicts.Allowed next) =
     ap (λ (x : FabricState). reply_to_word (run state_after_word x words) (length words) w) (sym reset.is)
     ∙ reply_of_event (length words) (state_after p words) e valid ∙ sym m.answered in
-    let event : event_at (history_of shapes (words ++ w ∷ [])) (length words) ≡ Some e = event_at_words shapes (words ++ w ∷ []) longer (length words) w e (get_last words w) (event_at-word_of e valid) in
+    let event : event_at (history_of shapes (words ++ w ∷ [])) (length words) ≡ Some e = event_at_words shapes (words ++ w ∷ []) longer (length words) w e (get_last words w) (event_of_word-word_of e valid) in
     let reply : reply_at (history_of shapes (words ++ w ∷ [])) (length words) ≡ Some (replies.Verdict (verdicts.Allowed next)) =
     reply_at_words shapes (words ++ w ∷ []) longer (length words) w (get_last words w)
     ∙ ap (λ (ws : List ℕ). Some (reply_to_word (run state_after_word (fabric_at_reset shapes) ws) (length words) w)) (take-append_seam words (w ∷ []))

@@ -10,7 +10,7 @@ use Rattle.event_words.specs.declared.event.Event.{Event}
 use Rattle.event_words.specs.declared.event.Event.TheVariants as events
 use Rattle.event_words.specs.declared.reply.Reply.{Reply}
 use Rattle.event_words.specs.declared.record.LoggedEvent.{LoggedEvent}
-use Rattle.event_words.specs.Word.{event_at, word_of}
+use Rattle.event_words.specs.Word.{event_of_word, word_of}
 use Rattle.event_words.specs.Events.{same_event}
 use Rattle.event_words.specs.Runs.{logged_from, logged_first}
 use Rattle.event_words.specs.Records.{events_by, is_by, is_taken, is_verdict, wide_event}
@@ -19,9 +19,9 @@ use Rattle.unit_core.specs.Units.{FabricState}
 use Rattle.unit_core.specs.Fabrics.{state_after_word, reply_to_word}
 use Rattle.checker_workers.specs.declared.ticket.Submitted.{Submitted}
 use Rattle.checker_workers.specs.declared.ticket.Submitted.TheVariants.{Passed, Queued, Busy, Stalled}
-use Rattle.checker_workers.specs.Ports.{PortView, own_events, MakesEvent, logged_at}
+use Rattle.checker_workers.specs.Ports.{PortView, port_events, MakesEvent, logged_at}
 use Rattle.checker_workers.specs.TicketViews.{TicketView}
-use Rattle.checker_workers.specs.Tickets.{IsOpenTicket, BearsTicket, HandsOut, MakesByWidth, MakesSubmission, is_submission, is_end, submits_on, submitted_reply, last_ticket}
+use Rattle.checker_workers.specs.Tickets.{IsOpenTicket, BearsTicket, HandsOut, MakesByWidth, MakesSubmission, is_ticket_submission, is_end, submits_on, submitted_reply, last_ticket}
 
 -- ---- no event stands past the end of the log
 
@@ -43,7 +43,7 @@ first-ends t c k r (Some e) xs h rest = by-cons t c (record { place = k; event =
 
 none_ends : (t : TicketView) (c k : ℕ) (st : FabricState) (ws : List ℕ) → k + length ws ≤ t.place → list_any (is_end t) (events_by c (logged_from state_after_word reply_to_word k st ws)) ≡ false
 none_ends t c k st [] h = refl
-none_ends t c k st (w ∷ ws) h = first-ends t c k (reply_to_word st k w) (event_at w) (logged_from state_after_word reply_to_word (suc k) (state_after_word st k w) ws) (omega arith) (none_ends t c (suc k) (state_after_word st k w) ws (omega arith))
+none_ends t c k st (w ∷ ws) h = first-ends t c k (reply_to_word st k w) (event_of_word w) (logged_from state_after_word reply_to_word (suc k) (state_after_word st k w) ws) (omega arith) (none_ends t c (suc k) (state_after_word st k w) ws (omega arith))
 
 -- ---- one more event
 
@@ -62,13 +62,13 @@ new_ticket p q unit e r m submits taken =
     let t : TicketView = record { unit = unit; place = length words; caller = p.number } in
     let is : last_ticket q unit ≡ t = ap (λ (n : ℕ). record { unit = unit; place = n; caller = q.number }) place ∙ ap (λ (n : ℕ). record { unit = unit; place = length words; caller = n }) number in
     let x : LoggedEvent = logged_at (length words) e r in
-    let submitted : is_submission t x ≡ true =
+    let submitted : is_ticket_submission t x ≡ true =
     and_from (eqb (length words) (length words)) _ (eq-eqb (length words) (length words) refl) (and_from (submits_on unit p.number e) (is_taken r) submits taken) in
-    let before : list_any (is_end t) (own_events p) ≡ false = none_ends t p.number 0 p.first p.log (omega (arith, length-append p.log m.between)) in
+    let before : list_any (is_end t) (port_events p) ≡ false = none_ends t p.number 0 p.first p.log (omega (arith, length-append p.log m.between)) in
     subst (λ (v : TicketView). IsOpenTicket q v) (sym is) (record {
       caller = sym number;
-      taken = ap (list_any (is_submission t)) m.own ∙ one (is_submission t) (own_events p) x ∙ any_last (list_any (is_submission t) (own_events p)) (is_submission t x) submitted;
-      open_still = ap (list_any (is_end t)) m.own ∙ one (is_end t) (own_events p) x ∙ or_from _ _ before (or_from _ _ (ends_none t x (omega arith)) refl);
+      taken = ap (list_any (is_ticket_submission t)) m.own ∙ one (is_ticket_submission t) (port_events p) x ∙ any_last (list_any (is_ticket_submission t) (port_events p)) (is_ticket_submission t x) submitted;
+      open_still = ap (list_any (is_end t)) m.own ∙ one (is_end t) (port_events p) x ∙ or_from _ _ before (or_from _ _ (ends_none t x (omega arith)) refl);
     })
   where
     any_last : (b c : Bool) → c ≡ true → (b || (c || false)) ≡ true
@@ -76,11 +76,11 @@ new_ticket p q unit e r m submits taken =
     any_last false c h = ap (λ (d : Bool). d || false) h
 
 -- Events among which there is no verdict on it leave a ticket open.
-pub ticket_kept : (p q : PortView) (made : List LoggedEvent) (t : TicketView) → own_events q ≡ own_events p ++ made → q.number ≡ p.number → list_any (is_end t) made ≡ false → IsOpenTicket p t → IsOpenTicket q t
+pub ticket_kept : (p q : PortView) (made : List LoggedEvent) (t : TicketView) → port_events q ≡ port_events p ++ made → q.number ≡ p.number → list_any (is_end t) made ≡ false → IsOpenTicket p t → IsOpenTicket q t
 ticket_kept p q made t own number none h = record {
   caller = h.caller ∙ sym number;
-  taken = ap (list_any (is_submission t)) own ∙ list_any-append (is_submission t) (own_events p) made ∙ ap (λ (b : Bool). b || list_any (is_submission t) made) h.taken;
-  open_still = ap (list_any (is_end t)) own ∙ list_any-append (is_end t) (own_events p) made ∙ or_from _ _ h.open_still none;
+  taken = ap (list_any (is_ticket_submission t)) own ∙ list_any-append (is_ticket_submission t) (port_events p) made ∙ ap (λ (b : Bool). b || list_any (is_ticket_submission t) made) h.taken;
+  open_still = ap (list_any (is_end t)) own ∙ list_any-append (is_end t) (port_events p) made ∙ or_from _ _ h.open_still none;
 }
 
 -- The ticket of a submission that was taken is open.

@@ -8,7 +8,7 @@ use Rattle.unit_core.proofs.Lists.{count_cons}
 use Rattle.event_words.specs.declared.record.LoggedEvent.{LoggedEvent}
 use Rattle.event_words.specs.declared.record.SectionEnd.TheVariants as ends
 use Rattle.event_words.specs.declared.section.Command.{Command}
-use Rattle.event_words.specs.Records.{end_from, piece, after_piece}
+use Rattle.event_words.specs.Records.{end_of_commands, piece, after_piece}
 use Rattle.event_words.specs.Sections.{IsValidCommand, AreValidCommands, NamesUnits, most_events, is_submit}
 use Rattle.checker_workers.specs.declared.lane.LaneEnd.TheVariants.{Done, Stopped}
 use Rattle.checker_workers.specs.Ports.{PortView, EndWhole, unit_count}
@@ -28,7 +28,7 @@ pub record Playing (p : PortView) (all : List Command) (i : ℕ) (q : PortView) 
   pub made : List LoggedEvent
   pub adds : MakesEvents p made q
   pub whole : EndWhole made
-  pub so_far : (rest : List LoggedEvent) → end_from p.number all [] (made ++ rest) ≡ end_from p.number (drop i all) (slots_of table) rest
+  pub so_far : (rest : List LoggedEvent) → end_of_commands p.number all [] (made ++ rest) ≡ end_of_commands p.number (drop i all) (slots_of table) rest
   pub tickets : IsTicketTable q table
   pub valid : AreValidCommands count (drop i all)
   pub units : AllByRecursion (NamesUnits (unit_count p)) (drop i all)
@@ -41,7 +41,7 @@ playing_none p all table count capacity empty zeroth valid units enough room = r
   made = [];
   adds = makes_none p;
   whole = refl;
-  so_far = λ rest. ap (λ (ts : Table). end_from p.number all (slots_of ts) rest) (sym empty);
+  so_far = λ rest. ap (λ (ts : Table). end_of_commands p.number all (slots_of ts) rest) (sym empty);
   tickets = subst (IsTicketTable p) (sym empty) (table_empty p);
   valid = subst (λ (n : ℕ). AreValidCommands n all) (sym zeroth) valid;
   units = units;
@@ -80,11 +80,11 @@ counted command rest count capacity h = by (is_submit command) (count_by is_subm
 
 -- the record after one command more
 cut_record : (p q s : PortView) (all : List Command) (i : ℕ) (table after : Table) (count capacity : ℕ) (command : Command) (stops : Bool) (b : Playing p all i q table count capacity) (k : PlaysCommand q table command s after stops)
-    → drop i all ≡ command ∷ drop (i + 1) all → (rest : List LoggedEvent) → end_from p.number all [] ((b.made ++ k.made) ++ rest) ≡ after_piece (end_from p.number (drop (i + 1) all)) (Some (cut_to after stops rest))
+    → drop i all ≡ command ∷ drop (i + 1) all → (rest : List LoggedEvent) → end_of_commands p.number all [] ((b.made ++ k.made) ++ rest) ≡ after_piece (end_of_commands p.number (drop (i + 1) all)) (Some (cut_to after stops rest))
 cut_record p q s all i table after count capacity command stops b k e rest =
-    ap (end_from p.number all []) (append_assoc b.made k.made rest) ∙ b.so_far (k.made ++ rest)
-    ∙ ap (λ (cs : List Command). end_from p.number cs (slots_of table) (k.made ++ rest)) e
-    ∙ ap (after_piece (end_from p.number (drop (i + 1) all)))
+    ap (end_of_commands p.number all []) (append_assoc b.made k.made rest) ∙ b.so_far (k.made ++ rest)
+    ∙ ap (λ (cs : List Command). end_of_commands p.number cs (slots_of table) (k.made ++ rest)) e
+    ∙ ap (after_piece (end_of_commands p.number (drop (i + 1) all)))
     (ap (λ (n : ℕ). piece n (slots_of table) command (k.made ++ rest)) (sym (same_number p q b.made b.adds)) ∙ k.record_is rest)
 
 pub playing_next : (p q s : PortView) (all : List Command) (i : ℕ) (table after : Table) (count capacity count' capacity' : ℕ) (command : Command) → Playing p all i q table count capacity → drop i all ≡ command ∷ drop (i + 1) all
@@ -113,7 +113,7 @@ playing_stopped p q s all i table after count capacity command b e k = record {
   made = b.made ++ k.made;
   adds = makes_both p q s b.made k.made b.adds k.adds;
   how = ends.Stopped;
-  record_is = ap (end_from p.number all []) (sym (append-nil (b.made ++ k.made))) ∙ cut_record p q s all i table after count capacity command true b k e [];
+  record_is = ap (end_of_commands p.number all []) (sym (append-nil (b.made ++ k.made))) ∙ cut_record p q s all i table after count capacity command true b k e [];
   ended_so = refl;
 }
 
@@ -122,6 +122,6 @@ playing_done p q all i table count capacity b h = record {
   made = b.made;
   adds = b.adds;
   how = ends.Done;
-  record_is = ap (end_from p.number all []) (sym (append-nil b.made)) ∙ b.so_far [] ∙ ap (λ (cs : List Command). end_from p.number cs (slots_of table) []) (drop_all i all h);
+  record_is = ap (end_of_commands p.number all []) (sym (append-nil b.made)) ∙ b.so_far [] ∙ ap (λ (cs : List Command). end_of_commands p.number cs (slots_of table) []) (drop_all i all h);
   ended_so = refl;
 }

@@ -3,7 +3,7 @@ use Rattle.std.proofs.Common.{◌≡◌, ℕ, ◌≤◌, false, List, [], ◌∷
 use Rattle.std.specs.List.{last_or}
 use Rattle.event_words.specs.declared.record.LoggedEvent.{LoggedEvent}
 use Rattle.cascade_path.proofs.Causes.{last-append}
-use Rattle.checker_workers.specs.Ports.{PortView, EndWhole, RestsSince, is_aim, is_aim_logged, own_events}
+use Rattle.checker_workers.specs.Ports.{PortView, EndWhole, RestsSince, is_aim, is_aim_logged, port_events}
 use Rattle.checker_workers.specs.Pieces.{MakesEvents}
 
 last_behind : (o : Option LoggedEvent) (xs : List LoggedEvent) (y : LoggedEvent) (ys : List LoggedEvent) → last_or o (xs ++ y ∷ ys) ≡ last_or (Some y) ys
@@ -24,7 +24,7 @@ rests_first first p h less = absurd (omega arith)
 -- after whole events
 pub rests_after : (first : ℕ) (p q : PortView) (made : List LoggedEvent) → RestsSince first p → MakesEvents p made q → EndWhole made → RestsSince first q
 rests_after first p q [] rests m whole less =
-    let own : own_events q ≡ own_events p = m.own ∙ append-nil (own_events p) in
+    let own : port_events q ≡ port_events p = m.own ∙ append-nil (port_events p) in
     let left = m.left in
     subst EndWhole (sym own) (rests (omega arith))
-rests_after first p q (x ∷ xs) rests m whole less = ap (λ (l : List LoggedEvent). is_aim_logged (last_or None l)) m.own ∙ ap is_aim_logged (last_behind None (own_events p) x xs) ∙ whole
+rests_after first p q (x ∷ xs) rests m whole less = ap (λ (l : List LoggedEvent). is_aim_logged (last_or None l)) m.own ∙ ap is_aim_logged (last_behind None (port_events p) x xs) ∙ whole

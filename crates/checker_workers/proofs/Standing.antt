@@ -18,7 +18,7 @@ use Rattle.event_words.specs.Valid.{IsValidEvent}
 use Rattle.event_words.specs.Events.{same_event}
 use Rattle.event_words.specs.Records.{is_by, events_by, is_taken, is_verdict}
 use Rattle.event_words.specs.Runs.{IsEventWord, run, logged}
-use Rattle.event_words.proofs.Runs.{events-of-beginning, word_of-is_word, event_at-word_of}
+use Rattle.event_words.proofs.Runs.{events-of-beginning, word_of-is_word, event_of_word-word_of}
 use Rattle.unit_core.specs.Units.{FabricState, fabric_at_reset}
 use Rattle.unit_core.specs.Fabrics.{state_after_word, reply_to_word}
 use Rattle.unit_core.specs.Histories.{History, event_at, reply_at, history_of, events_of_words, logged_in}
@@ -30,9 +30,9 @@ use Rattle.history_laws.proofs.WordHistories.{event_at_words, reply_at_words, is
 use Rattle.history_laws.proofs.LoggedTests.{found_kept, none_kept}
 use Rattle.history_laws.proofs.TicketReplies.{IsJudged, judged_open, same_event_before, same_reply_before}
 use Rattle.cascade_path.proofs.Repeats.{same_event-refl}
-use Rattle.checker_workers.specs.Ports.{PortView, IsAtReset, MakesEvent, own_events, state_after}
+use Rattle.checker_workers.specs.Ports.{PortView, IsAtReset, MakesEvent, port_events, state_after}
 use Rattle.checker_workers.specs.TicketViews.{TicketView}
-use Rattle.checker_workers.specs.Tickets.{IsOpenTicket, is_submission, is_end, submits_on}
+use Rattle.checker_workers.specs.Tickets.{IsOpenTicket, is_ticket_submission, is_end, submits_on}
 use Rattle.checker_workers.proofs.Making.{reply_of_event}
 
 abbrev pub judgement : TicketView → Event
@@ -57,7 +57,7 @@ record IsFound (t : TicketView) (x : LoggedEvent) : Type 0 where
   submits : submits_on t.unit t.caller x.event ≡ true
   reply : (x.reply ≡ replies.Passed) ⊎ (x.reply ≡ replies.Queued)
 
-finds : (t : TicketView) (x : LoggedEvent) → is_submission t x ≡ true → IsFound t x
+finds : (t : TicketView) (x : LoggedEvent) → is_ticket_submission t x ≡ true → IsFound t x
 finds t x e =
     let a = and_parts (eqb x.place t.place) (submits_on t.unit t.caller x.event && is_taken x.reply) e in
     let b = and_parts (submits_on t.unit t.caller x.event) (is_taken x.reply) a.1 in
@@ -99,11 +99,11 @@ within_words shapes words all k e q = subst (λ (n : ℕ). k < n) (length_events
 -- The reply to a judgement of a ticket after words, of whose events the ticket's submission is one,
 -- and no verdict on it.
 judged_words : (shapes : List Shape) (words : List ℕ) → AllByRecursion IsEventWord words → (t : TicketView) → IsValidEvent (judgement t)
-    → list_any (is_submission t) (events_by t.caller (logged_in shapes words)) ≡ true → list_any (is_end t) (events_by t.caller (logged_in shapes words)) ≡ false
+    → list_any (is_ticket_submission t) (events_by t.caller (logged_in shapes words)) ≡ true → list_any (is_end t) (events_by t.caller (logged_in shapes words)) ≡ false
     → IsJudged (reply_to_word (run state_after_word (fabric_at_reset shapes) words) (length words) (word_of (judgement t)))
 judged_words shapes words all t valid some none =
     let w = word_of (judgement t) in
-    let found = found_kept (is_submission t) (is_by t.caller) (logged_in shapes words) some in
+    let found = found_kept (is_ticket_submission t) (is_by t.caller) (logged_in shapes words) some in
     let k = found.index in
     let is = finds t found.item found.passes in
     let longer = all_append IsEventWord words w all (word_of-is_word (judgement t) valid) in
@@ -115,7 +115,7 @@ judged_words shapes words all t valid some none =
     let reply = same_reply_before shapes words (w ∷ []) all longer k before ∙ here.reply in
     let what = taken_there h k t.place t.unit t.caller found.item.event found.item.reply event reply is.reply is.submits place in
     let own : IsOwnJudgement h t.unit t.caller t.place (length words) = record {
-      event = event_at_words shapes (words ++ w ∷ []) longer (length words) w (judgement t) (get_last words w) (event_at-word_of (judgement t) valid);
+      event = event_at_words shapes (words ++ w ∷ []) longer (length words) w (judgement t) (get_last words w) (event_of_word-word_of (judgement t) valid);
       later = subst (λ n. n < length words) place before;
     } in
     judged_open h t.unit t.caller t.place (length words) what.0 _ what.1 own
@@ -136,11 +136,11 @@ open_reply p q t r m reset all valid h =
     let words : List ℕ = p.log ++ m.between in
     let w = word_of (judgement t) in
     let before : AllByRecursion IsEventWord words = prefix words w (subst (AllByRecursion IsEventWord) m.log all) in
-    let own : events_by t.caller (logged_in reset.shapes words) ≡ own_events p =
+    let own : events_by t.caller (logged_in reset.shapes words) ≡ port_events p =
     ap (λ (n : ℕ). events_by n (logged_in reset.shapes words)) h.caller
     ∙ ap (λ (s : FabricState). events_by p.number (logged state_after_word reply_to_word s words)) (sym reset.is)
     ∙ events-of-beginning state_after_word reply_to_word p.number p.first p.log m.between m.others in
-    let j = judged_words reset.shapes words before t valid (ap (list_any (is_submission t)) own ∙ h.taken) (ap (list_any (is_end t)) own ∙ h.open_still) in
+    let j = judged_words reset.shapes words before t valid (ap (list_any (is_ticket_submission t)) own ∙ h.taken) (ap (list_any (is_end t)) own ∙ h.open_still) in
     let at : reply_to_word (run state_after_word (fabric_at_reset reset.shapes) words) (length words) w ≡ r =
     ap (λ (s : FabricState). reply_to_word (run state_after_word s words) (length words) w) (sym reset.is)
     ∙ reply_of_event (length words) (state_after p words) (judgement t) valid ∙ sym m.answered in

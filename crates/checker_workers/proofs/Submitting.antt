@@ -10,7 +10,7 @@ use Rattle.event_words.specs.Records.{wide_event}
 use Rattle.event_words.specs.Valid.{is_narrow}
 use Rattle.event_words.specs.Word.{word_of}
 use Rattle.cascade_path.specs.Stages.{IsSubmission}
-use Rattle.checker_workers.specs.Ports.{PortView, IsAtReset, MakesEvent, own_events, unit_count}
+use Rattle.checker_workers.specs.Ports.{PortView, IsAtReset, MakesEvent, port_events, unit_count}
 use Rattle.checker_workers.specs.Tickets.{MakesByWidth, MakesSubmission, MakesWide, is_submit_reply}
 use Rattle.checker_workers.specs.Pieces.{MakesEvents}
 use Rattle.checker_workers.proofs.Aims.{wide_answers}
@@ -41,7 +41,7 @@ submits_wide p b q unit a r aim m small there wide fits reset =
     let number : b.number ≡ p.number = ap (λ (v : PortView). v.number) aim.same in
     let count : unit_count b ≡ unit_count p = ap (λ (v : PortView). unit_count v) aim.same in
     let e : Event = wide_event unit b.number a in
-    let an = wide_answers b q unit b.number a r m (own_events p) (made_by p b (events.Aim p.number a.addr) replies.Aimed aim) p.number reset small refl fits aim.own refl (omega arith) in record {
+    let an = wide_answers b q unit b.number a r m (port_events p) (made_by p b (events.Aim p.number a.addr) replies.Aimed aim) p.number reset small refl fits aim.own refl (omega arith) in record {
       event = subst (λ (z : Bool). MakesByWidth z p unit a r q) (sym wide) (record { between = b; aim = aim; wide = subst (λ (n : ℕ). MakesEvent b (wide_event unit n a) r q) number m });
       reply = ap is_submit_reply an.reply ∙ submit_reply (length (b.log ++ m.between)) an.unit b.number a;
       some = let l = longer b q e r m in omega arith;

@@ -16,7 +16,7 @@ use Rattle.event_words.specs.Records.{judgements, polls, hits, is_verdict}
 use Rattle.shared_log.specs.Callers.{SharedView, Belongs}
 use Rattle.cascade_path.proofs.Repeats.{judgements_left, judgements-held, judgements-last}
 use Rattle.checker_workers.specs.declared.ticket.Judged.TheVariants.{Done, Held}
-use Rattle.checker_workers.specs.Ports.{PortView, EndWhole, MakesEvent, own_events, logged_at, unit_count}
+use Rattle.checker_workers.specs.Ports.{PortView, EndWhole, MakesEvent, port_events, logged_at, unit_count}
 use Rattle.checker_workers.specs.TicketViews.{TicketView}
 use Rattle.checker_workers.specs.Tickets.{IsOpenTicket, Judges, is_end}
 use Rattle.checker_workers.specs.Pieces.{MakesEvents, Polls, SettlesTicket}
@@ -27,7 +27,7 @@ use Rattle.checker_workers.proofs.PolledReads.{polls_left, polls-missed, polls-h
 -- ---- events one after another
 
 pub makes_none : (p : PortView) → MakesEvents p [] p
-makes_none p = record { own = sym (append-nil (own_events p)); later = []; log = sym (append-nil p.log); left = omega arith; same = refl }
+makes_none p = record { own = sym (append-nil (port_events p)); later = []; log = sym (append-nil p.log); left = omega arith; same = refl }
 
 -- the event that a call made
 abbrev pub made_by : (p q : PortView) (e : Event) (r : Reply) → MakesEvent p e r q → LoggedEvent
@@ -36,7 +36,7 @@ made_by p q e r m = logged_at (length (p.log ++ m.between)) e r
 pub makes_more : (p q s : PortView) (made : List LoggedEvent) (e : Event) (r : Reply) → MakesEvents p made q → (m : MakesEvent q e r s) → MakesEvents p (made ++ made_by q s e r m ∷ []) s
 makes_more p q s made e r a m =
     let x : LoggedEvent = made_by q s e r m in record {
-      own = m.own ∙ ap (λ (l : List LoggedEvent). l ++ x ∷ []) a.own ∙ append_assoc (own_events p) made (x ∷ []);
+      own = m.own ∙ ap (λ (l : List LoggedEvent). l ++ x ∷ []) a.own ∙ append_assoc (port_events p) made (x ∷ []);
       later = (a.later ++ m.between) ++ word_of e ∷ [];
       log = m.log ∙ ap (λ (l : List ℕ). (l ++ m.between) ++ word_of e ∷ []) a.log ∙ ap (λ (l : List ℕ). l ++ word_of e ∷ []) (append_assoc p.log a.later m.between)
           ∙ append_assoc p.log (a.later ++ m.between) (word_of e ∷ []);
@@ -49,7 +49,7 @@ makes_one p q e r m = makes_more p p q [] e r (makes_none p) m
 
 pub makes_both : (p q s : PortView) (made more : List LoggedEvent) → MakesEvents p made q → MakesEvents q more s → MakesEvents p (made ++ more) s
 makes_both p q s made more a b = record {
-  own = b.own ∙ ap (λ (l : List LoggedEvent). l ++ more) a.own ∙ append_assoc (own_events p) made more;
+  own = b.own ∙ ap (λ (l : List LoggedEvent). l ++ more) a.own ∙ append_assoc (port_events p) made more;
   later = a.later ++ b.later;
   log = b.log ∙ ap (λ (l : List ℕ). l ++ b.later) a.log ∙ append_assoc p.log a.later b.later;
   left = let c = a.left in let d = b.left in omega (arith, length-append made more);

@@ -4,8 +4,8 @@ use Rattle.event_words.specs.declared.record.LoggedEvent.{LoggedEvent}
 use Rattle.event_words.specs.declared.record.SectionEnd.{SectionEnd}
 use Rattle.event_words.specs.declared.record.SectionEnd.TheVariants as ends
 use Rattle.event_words.specs.declared.section.Command.{Command}
-use Rattle.event_words.specs.Records.{section_end, end_from}
-use Rattle.event_words.specs.Sections.{SectionOf, IsValidSection, NamesOnlyUnits, events_of}
+use Rattle.event_words.specs.Records.{section_end, end_of_commands}
+use Rattle.event_words.specs.Sections.{SectionOf, IsValidSection, NamesOnlyUnits, most_section_events}
 use Rattle.checker_workers.specs.declared.lane.LaneEnd.{LaneEnd}
 use Rattle.checker_workers.specs.declared.lane.LaneEnd.TheVariants.{Fresh, Done, Stopped}
 use Rattle.shared_log.specs.Callers.{SharedView, Belongs}
@@ -23,7 +23,7 @@ pub record LaneView : Type 0 where
 pub record MayPlay (section : SectionOf) (p : PortView) : Type 0 where
   pub valid : IsValidSection section
   pub units : NamesOnlyUnits (unit_count p) section
-  pub enough : events_of section ≤ p.left
+  pub enough : most_section_events section ≤ p.left
 
 -- A fresh lane may be played, with room for its tickets.
 pub record IsReady (section : SectionOf) (p : PortView) (table : List (Option TicketView)) (room : ℕ) : Type 0 where
@@ -40,7 +40,7 @@ pub record PlaysCommands (p : PortView) (all : List Command) (q : PortView) (end
   pub made : List LoggedEvent
   pub adds : MakesEvents p made q
   pub how : SectionEnd
-  pub record_is : end_from p.number all [] made ≡ Some how
+  pub record_is : end_of_commands p.number all [] made ≡ Some how
   pub ended_so : ended ≡ end_of how
 
 -- The lane ran: its caller made a whole record of its section, and the lane ended as the record does.

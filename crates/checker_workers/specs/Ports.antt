@@ -40,8 +40,8 @@ abbrev pub units_after : PortView → List ℕ → List UnitState
 units_after p words = (state_after p words).units
 
 -- The events that the port's caller made, each with its place and its reply.
-abbrev pub own_events : PortView → List LoggedEvent
-own_events p = events_by p.number (logged state_after_word reply_to_word p.first p.log)
+abbrev pub port_events : PortView → List LoggedEvent
+port_events p = events_by p.number (logged state_after_word reply_to_word p.first p.log)
 
 abbrev pub logged_at : ℕ → Event → Reply → LoggedEvent
 logged_at place event reply = record { place = place; event = event; reply = reply }
@@ -54,7 +54,7 @@ pub record MakesEvent (p : PortView) (event : Event) (reply : Reply) (q : PortVi
   pub others : words_by p.number between ≡ []
   pub log : q.log ≡ (p.log ++ between) ++ word_of event ∷ []
   pub answered : reply ≡ (fabric_step (length (p.log ++ between)) (state_after p (p.log ++ between)) event).1
-  pub own : own_events q ≡ own_events p ++ logged_at (length (p.log ++ between)) event reply ∷ []
+  pub own : port_events q ≡ port_events p ++ logged_at (length (p.log ++ between)) event reply ∷ []
   pub replica : q.machine.state ≡ state_after q q.log
   pub left : q.left + 1 ≡ p.left
   pub same : q ≡ record p { log = q.log; left = q.left; machine = q.machine }
@@ -79,4 +79,4 @@ EndWhole made = is_aim_logged (last_or None made) ≡ false
 
 -- Since so many events were left to it, the port's caller is at rest: it made none, or whole submissions.
 abbrev pub RestsSince : ℕ → PortView → Type 0
-RestsSince first p = p.left < first → EndWhole (own_events p)
+RestsSince first p = p.left < first → EndWhole (port_events p)

@@ -17,7 +17,7 @@ use Rattle.checker_workers.specs.declared.ticket.Submitted.{Submitted}
 use Rattle.checker_workers.specs.declared.ticket.Submitted.TheVariants.{Passed, Queued, Busy, Stalled}
 use Rattle.checker_workers.specs.declared.ticket.Judged.{Judged}
 use Rattle.checker_workers.specs.declared.ticket.Judged.TheVariants.{Done, Held}
-use Rattle.checker_workers.specs.Ports.{PortView, own_events, units_after, MakesEvent}
+use Rattle.checker_workers.specs.Ports.{PortView, port_events, units_after, MakesEvent}
 use Rattle.checker_workers.specs.TicketViews.{TicketView}
 
 abbrev pub submits_on : ℕ → ℕ → Event → Bool
@@ -26,8 +26,8 @@ submits_on unit caller (events.Wide u c rrid kind len) = (u == unit) && (c == ca
 submits_on unit caller _ = false
 
 -- the ticket's submission, which was taken
-abbrev pub is_submission : TicketView → LoggedEvent → Bool
-is_submission t x = (x.place == t.place) && (submits_on t.unit t.caller x.event && is_taken x.reply)
+abbrev pub is_ticket_submission : TicketView → LoggedEvent → Bool
+is_ticket_submission t x = (x.place == t.place) && (submits_on t.unit t.caller x.event && is_taken x.reply)
 
 -- a judgement of the ticket's submission, after it, that gave a verdict
 abbrev pub is_end : TicketView → LoggedEvent → Bool
@@ -36,8 +36,8 @@ is_end t x = nat_lt t.place x.place && (same_event (events.Judge t.unit t.caller
 -- The ticket is the port's, its submission was taken, and there was no verdict on it.
 pub record IsOpenTicket (p : PortView) (t : TicketView) : Type 0 where
   pub caller : t.caller ≡ p.number
-  pub taken : list_any (is_submission t) (own_events p) ≡ true
-  pub open_still : list_any (is_end t) (own_events p) ≡ false
+  pub taken : list_any (is_ticket_submission t) (port_events p) ≡ true
+  pub open_still : list_any (is_end t) (port_events p) ≡ false
 
 -- ---- whether a submission waits in the queue
 

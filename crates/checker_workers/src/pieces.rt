@@ -29,18 +29,18 @@ pub(crate) fn tell<G: Gate>(gate: &G, port: &Port, first: u32)
 
 // A register, and what its value must have in the bits of a mask.
 #[derive(Clone, Copy)]
-pub(crate) struct Watch {
+pub(crate) struct RegisterPoll {
     pub(crate) unit: u8,
     pub(crate) index: u32,
     pub(crate) mask: u32,
     pub(crate) value: u32,
 }
 
-impl Watch {
-    fn new(unit: u8, index: u32, mask: u32, value: u32) -> Watch
+impl RegisterPoll {
+    fn new(unit: u8, index: u32, mask: u32, value: u32) -> RegisterPoll
         ensures { result ≡ record { unit = unit; index = index; mask = mask; value = value } }
     {
-        Watch {
+        RegisterPoll {
             unit,
             index,
             mask,
@@ -55,7 +55,7 @@ fn poll<G: Gate>(
     shared: &Shared,
     gate: &G,
     first: u32,
-    watch: Watch,
+    watch: RegisterPoll,
     max: u32,
 ) -> bool
     requires belongs { Belongs port.old shared.now }
@@ -245,7 +245,7 @@ pub(crate) fn play_command<G: Gate>(
             value,
             max,
         } => {
-            let watch = Watch::new(unit, index, mask, value);
+            let watch = RegisterPoll::new(unit, index, mask, value);
             poll(port, shared, gate, first, watch, max)
         }
         Command::Through {

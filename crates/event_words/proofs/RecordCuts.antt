@@ -17,7 +17,7 @@ use Rattle.event_words.specs.declared.section.Command.TheVariants.{Write, Read, 
 use Rattle.event_words.specs.Events.{same_event}
 use Rattle.event_words.specs.Sections.{most_events, submission_events, stage_units}
 use Rattle.event_words.specs.Valid.{is_narrow}
-use Rattle.event_words.specs.Records.{OpenSlot, Cut, first_as, judgements, polls, is_held, is_taken, is_aimed, hits, wide_event, second_as, submission_as, one_piece, submit_piece, settled, settle_piece, until_piece, next_requester, stage_following, stage_judged, stage_piece, aimed_piece, one_stage, through_stages, through_piece, piece, nothing_left, after_piece, end_from, slot_of}
+use Rattle.event_words.specs.Records.{OpenSlot, Cut, take_event, judgements, polls, is_held, is_taken, is_aimed, hits, wide_event, take_event_after, take_submission, one_piece, submit_piece, settled, settle_piece, until_piece, next_requester, stage_following, stage_judged, stage_piece, aimed_piece, one_stage, through_stages, through_piece, piece, nothing_left, after_piece, end_of_commands, slot_of}
 
 -- ---- options
 
@@ -73,22 +73,22 @@ module _ (P : Event → Type 0) (R : ℕ → List LoggedEvent → List LoggedEve
   stays : (n : ℕ) (xs : List LoggedEvent) → R n xs xs
   stays n xs = s.more 0 n xs xs (omega arith) (s.none xs)
 
-  one_first : (e : Event) → P e → (xs : List LoggedEvent) → IfSome (first_as e xs) (λ p. R 1 xs p.1)
+  one_first : (e : Event) → P e → (xs : List LoggedEvent) → IfSome (take_event e xs) (λ p. R 1 xs p.1)
   one_first e q [] = tt
   one_first e q (x ∷ xs) = choice (λ (p : LoggedEvent × List LoggedEvent). R 1 (x ∷ xs) p.1) (same_event e x.event) (Some (x, xs)) None (λ t. s.one e q x xs t) (λ t. tt)
 
   -- ---- submissions of one event or two
 
-  two_first : (e : Event) → P e → (xs : List LoggedEvent) (o : Option (LoggedEvent × List LoggedEvent)) → IfSome o (λ p. R 1 xs p.1) → IfSome (second_as e o) (λ p. R 2 xs p.1)
+  two_first : (e : Event) → P e → (xs : List LoggedEvent) (o : Option (LoggedEvent × List LoggedEvent)) → IfSome o (λ p. R 1 xs p.1) → IfSome (take_event_after e o) (λ p. R 2 xs p.1)
   two_first e q xs None h = tt
   two_first e q xs (Some (x, ys)) h =
-      mapped (λ (p : LoggedEvent × List LoggedEvent). R 1 ys p.1) (λ (p : LoggedEvent × List LoggedEvent). R 2 xs p.1) (first_as e ys) (λ a r. s.both 1 1 xs ys a.1 h r) (one_first e q ys)
+      mapped (λ (p : LoggedEvent × List LoggedEvent). R 1 ys p.1) (λ (p : LoggedEvent × List LoggedEvent). R 2 xs p.1) (take_event e ys) (λ a r. s.both 1 1 xs ys a.1 h r) (one_first e q ys)
 
-  submission_first : (unit caller : ℕ) (access : Access) (xs : List LoggedEvent) → IfSome (submission_as unit caller access xs) (λ p. R (submission_events access) xs p.1)
+  submission_first : (unit caller : ℕ) (access : Access) (xs : List LoggedEvent) → IfSome (take_submission unit caller access xs) (λ p. R (submission_events access) xs p.1)
   submission_first unit caller access xs = by (is_narrow access)
     where
       by : (narrow : Bool)
-          → IfSome (if narrow then first_as (events.Submit unit caller access) xs else second_as (wide_event unit caller access) (first_as (events.Aim caller access.addr) xs)) (λ p. R (if narrow then 1 else 2) xs p.1)
+          → IfSome (if narrow then take_event (events.Submit unit caller access) xs else take_event_after (wide_event unit caller access) (take_event (events.Aim caller access.addr) xs)) (λ p. R (if narrow then 1 else 2) xs p.1)
       by true = one_first (events.Submit unit caller access) (s.submit unit caller access) xs
       by false = two_first (wide_event unit caller access) (s.wide unit caller access.rrid access.kind access.len) xs _ (one_first (events.Aim caller access.addr) (s.aim caller access.addr) xs)
 
@@ -143,14 +143,14 @@ module _ (P : Event → Type 0) (R : ℕ → List LoggedEvent → List LoggedEve
   aimed_stage caller max unit go n each wide q xs None h = tt
   aimed_stage caller max unit go n each wide q xs (Some (x, ys)) h =
       choice (R (2 + max + n) xs) (is_aimed x.reply) _ (Some ys)
-      (λ t. mapped (R (1 + max + n) ys) (R (2 + max + n) xs) (stage_piece caller max unit go (first_as wide ys)) (λ zs p. then_more 1 (1 + max + n) (2 + max + n) xs ys zs (omega arith) h p) (stage caller max unit go n each ys _ (one_first wide q ys)))
+      (λ t. mapped (R (1 + max + n) ys) (R (2 + max + n) xs) (stage_piece caller max unit go (take_event wide ys)) (λ zs p. then_more 1 (1 + max + n) (2 + max + n) xs ys zs (omega arith) h p) (stage caller max unit go n each ys _ (one_first wide q ys)))
       (λ t. s.more 1 (2 + max + n) xs ys (omega arith) h)
 
   any_stage : (caller max unit : ℕ) (access : Access) (go : ℕ → List LoggedEvent → Option (List LoggedEvent)) (n : ℕ) → Follows go n → (xs : List LoggedEvent) → IfSome (one_stage caller max unit access go xs) (R (submission_events access + max + n) xs)
   any_stage caller max unit access go n each xs = by (is_narrow access)
     where
       by : (narrow : Bool)
-          → IfSome (if narrow then stage_piece caller max unit go (first_as (events.Submit unit caller access) xs) else aimed_piece caller max unit go (wide_event unit caller access) (first_as (events.Aim caller access.addr) xs)) (R ((if narrow then 1 else 2) + max + n) xs)
+          → IfSome (if narrow then stage_piece caller max unit go (take_event (events.Submit unit caller access) xs) else aimed_piece caller max unit go (wide_event unit caller access) (take_event (events.Aim caller access.addr) xs)) (R ((if narrow then 1 else 2) + max + n) xs)
       by true = stage caller max unit go n each xs _ (one_first (events.Submit unit caller access) (s.submit unit caller access) xs)
       by false = aimed_stage caller max unit go n each (wide_event unit caller access) (s.wide unit caller access.rrid access.kind access.len) xs _ (one_first (events.Aim caller access.addr) (s.aim caller access.addr) xs)
 
@@ -218,8 +218,8 @@ module _ (P : Event → Type 0) (R : ℕ → List LoggedEvent → List LoggedEve
       (λ t. mapped (IsWhole n cut.rest) (IsWhole (m + n) xs) (go cut.slots cut.rest) (λ end r. s.both m n xs cut.rest [] h r) (each cut.slots cut.rest))
 
   -- It holds of a record, from its first event to its end.
-  pub whole_record : (caller : ℕ) (cs : List Command) → AllByRecursion (MayWrite P caller) cs → (slots : List (Option OpenSlot)) (xs : List LoggedEvent) → IfSome (end_from caller cs slots xs) (λ end. R (sum_by most_events cs) xs [])
+  pub whole_record : (caller : ℕ) (cs : List Command) → AllByRecursion (MayWrite P caller) cs → (slots : List (Option OpenSlot)) (xs : List LoggedEvent) → IfSome (end_of_commands caller cs slots xs) (λ end. R (sum_by most_events cs) xs [])
   whole_record caller [] q slots xs = nothing_after Done 0 xs xs (s.none xs)
   whole_record caller (c ∷ cs) q slots xs =
-      subst (λ n. IfSome (end_from caller (c ∷ cs) slots xs) (IsWhole n xs)) (sym (sum_by-cons most_events c cs))
-      (whole_after (end_from caller cs) (most_events c) (sum_by most_events cs) (λ ss ys. whole_record caller cs q.1 ss ys) xs (piece caller slots c xs) (piece_cut caller slots c q.0 xs))
+      subst (λ n. IfSome (end_of_commands caller (c ∷ cs) slots xs) (IsWhole n xs)) (sym (sum_by-cons most_events c cs))
+      (whole_after (end_of_commands caller cs) (most_events c) (sum_by most_events cs) (λ ss ys. whole_record caller cs q.1 ss ys) xs (piece caller slots c xs) (piece_cut caller slots c q.0 xs))

@@ -9,12 +9,12 @@ use Rattle.event_words.specs.declared.record.LoggedEvent.{LoggedEvent}
 use Rattle.event_words.specs.declared.record.SectionEnd.{SectionEnd}
 use Rattle.event_words.specs.Registers.{Registers, at_reset}
 use Rattle.event_words.specs.Events.{caller_of}
-use Rattle.event_words.specs.Word.{event_at as event_of_word}
-use Rattle.event_words.specs.Runs.{bearer, IsEventWord, run_from}
+use Rattle.event_words.specs.Word.{event_of_word}
+use Rattle.event_words.specs.Runs.{caller_of_word, IsEventWord, run_from}
 use Rattle.event_words.specs.Sections.{SectionOf}
-use Rattle.event_words.specs.Records.{end_from, events_by, is_by}
+use Rattle.event_words.specs.Records.{end_of_commands, events_by, is_by}
 use Rattle.event_words.specs.Stalls.{flags_after, flags_after_mdstall, flags_after_rridscp}
-use Rattle.event_words.proofs.Runs.{bearer-word_of}
+use Rattle.event_words.proofs.Runs.{caller_of_word-word_of}
 use Rattle.policy_compiler.specs.declared.image.RegPair.{RegPair}
 use Rattle.policy_compiler.specs.Commands.{write_command}
 use Rattle.policy_compiler.specs.Laws.{after_writes, guarded_write}
@@ -45,7 +45,7 @@ boot_filter : (words : List ℕ) → AllByRecursion IsEventWord words → filter
 boot_filter [] all = refl
 boot_filter (w ∷ ws) all =
     let e = word_event w all.0 in
-    let same : bearer w ≡ caller_of e.event = ap bearer e.is ∙ bearer-word_of e.event e.valid in
+    let same : caller_of_word w ≡ caller_of e.event = ap caller_of_word e.is ∙ caller_of_word-word_of e.event e.valid in
     ap (λ o. filter is_first (with_event o (events_of_words ws))) e.back
     ∙ by e.event (is_first e.event) e.back (boot_filter ws all.1)
     ∙ ap (λ n. events_of_words (cond (n == 0) (w ∷ filter is_boot ws) (filter is_boot ws))) (sym same)
@@ -63,8 +63,8 @@ some_of (Some end) h = (end, refl)
 pub boot_entries : (shapes : List Shape) (boot : SectionOf) (lanes : List SectionOf) (words : List ℕ) (ps : List RegPair) → boot.commands ≡ map write_command ps → IsLegalHistory shapes boot lanes words
     → map event_of (events_by 0 (logged_in shapes words)) ≡ map (write_by 0) ps
 boot_entries shapes boot lanes words ps commands legal =
-    let ended = some_of (end_from 0 boot.commands [] (events_by 0 (logged_in shapes words))) legal.boot_record in
-    writes_record 0 ps [] (events_by 0 (logged_in shapes words)) ended.0 (subst (λ cs. end_from 0 cs [] (events_by 0 (logged_in shapes words)) ≡ Some ended.0) commands ended.1)
+    let ended = some_of (end_of_commands 0 boot.commands [] (events_by 0 (logged_in shapes words))) legal.boot_record in
+    writes_record 0 ps [] (events_by 0 (logged_in shapes words)) ended.0 (subst (λ cs. end_of_commands 0 cs [] (events_by 0 (logged_in shapes words)) ≡ Some ended.0) commands ended.1)
 
 -- so are its events
 pub boot_events : (shapes : List Shape) (boot : SectionOf) (lanes : List SectionOf) (words : List ℕ) (ps : List RegPair) → boot.commands ≡ map write_command ps → IsLegalHistory shapes boot lanes words

@@ -15,7 +15,7 @@ use Rattle.unit_core.specs.Histories.{History}
 use Rattle.unit_core.specs.Submitted.{taken_at}
 use Rattle.history_laws.specs.Busy.{KeepsBusy}
 use Rattle.unit_core.proofs.Items.{judge_cases}
-use Rattle.unit_core.proofs.Runs.{own_state, own_at, reply_is, event_of, answered_shape, is_submission}
+use Rattle.unit_core.proofs.Runs.{own_state, own_at, reply_is, event_of, answered_shape, submission_taken}
 use Rattle.history_laws.proofs.QueueLaw.{own_sound}
 
 record IsFullFor (x : UnitState) (a : Access) : Type 0 where
@@ -67,7 +67,7 @@ law_busy h k busy =
       caller = turned.caller;
       access = turned.access;
       state = x;
-      event = is_submission h k there.unit turned.caller turned.access (subst (λ f. taken_at h k ≡ Some f) turned.event here.1);
+      event = submission_taken h k there.unit turned.caller turned.access (subst (λ f. taken_at h k ≡ Some f) turned.event here.1);
       here = state;
       stalled = turned.full.stalled;
       full = omega (arith, turned.full.full, sound.fits);

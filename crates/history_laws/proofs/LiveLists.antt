@@ -9,23 +9,23 @@ use Rattle.event_words.specs.declared.shape.Shape.{Shape}
 use Rattle.event_words.specs.declared.event.Event.{Event}
 use Rattle.event_words.specs.declared.event.Event.TheVariants.{RegWrite}
 use Rattle.event_words.specs.declared.record.LoggedEvent.{LoggedEvent}
-use Rattle.event_words.specs.Word.{event_at as event_of_word}
+use Rattle.event_words.specs.Word.{event_of_word}
 use Rattle.event_words.specs.Events.{caller_of}
-use Rattle.event_words.specs.Runs.{bearer, IsEventWord, logged_from, logged_first}
+use Rattle.event_words.specs.Runs.{caller_of_word, IsEventWord, logged_from, logged_first}
 use Rattle.event_words.specs.Sections.{SectionOf}
-use Rattle.event_words.specs.Records.{end_from, events_by, is_by}
-use Rattle.event_words.proofs.Runs.{bearer-word_of}
+use Rattle.event_words.specs.Records.{end_of_commands, events_by, is_by}
+use Rattle.event_words.proofs.Runs.{caller_of_word-word_of}
 use Rattle.policy_compiler.specs.declared.image.RegPair.{RegPair}
 use Rattle.policy_compiler.specs.Commands.{write_command}
 use Rattle.unit_core.specs.Units.{FabricState, fabric_at_reset}
 use Rattle.unit_core.specs.Fabrics.{state_after_word, reply_to_word}
 use Rattle.unit_core.specs.Histories.{IsBoot, IsOfLane, BootComesFirst, HaveRecords, IsLegalHistory, with_event, events_of_words, logged_in}
-use Rattle.event_words.specs.Sections.{WritesNothing as IsQuietSection}
+use Rattle.event_words.specs.Sections.{HasNoRegisterWrites as IsQuietSection}
 use Rattle.event_words.proofs.EventWords.{word_event}
-use Rattle.history_laws.proofs.QuietRecords.{IsNoWrite, WritesNothing, WriteNothing, quiet_record}
+use Rattle.history_laws.proofs.QuietRecords.{IsNoWriteEvent, IsNoLoggedWrite, HaveNoWrites, quiet_record}
 use Rattle.history_laws.proofs.Writes.{append_nothing, all_parts, all_both, all_passing, all_each}
 use Rattle.history_laws.proofs.UnitStands.{IsOnZero}
-use Rattle.history_laws.proofs.WriteRecords.{write_by, event_of, IsDrainRead, IsPlanRecord, plan_of, plan_record, writes_record, free}
+use Rattle.history_laws.proofs.WriteRecords.{write_by, event_of, IsDrainRead, IsPlanRecord, plan_of, plan_record, writes_record, release_write}
 
 -- ---- the list's events
 
@@ -49,11 +49,11 @@ IsBy c x = caller_of x.event ≡ c
 abbrev IsByLane : ℕ → LoggedEvent → Type 0
 IsByLane lanes x = (1 ≤ caller_of x.event) × (caller_of x.event ≤ lanes)
 
-callers : (P : ℕ → Type 0) (k : ℕ) (f : FabricState) (ws : List ℕ) → AllByRecursion IsEventWord ws → AllByRecursion (λ w. P (bearer w)) ws → AllByRecursion (λ x. P (caller_of x.event)) (logged_from state_after_word reply_to_word k f ws)
+callers : (P : ℕ → Type 0) (k : ℕ) (f : FabricState) (ws : List ℕ) → AllByRecursion IsEventWord ws → AllByRecursion (λ w. P (caller_of_word w)) ws → AllByRecursion (λ x. P (caller_of x.event)) (logged_from state_after_word reply_to_word k f ws)
 callers P k f [] all h = tt
 callers P k f (w ∷ ws) all h =
     let e = word_event w all.0 in
-    let own : P (caller_of e.event) = subst P (ap bearer e.is ∙ bearer-word_of e.event e.valid) h.0 in
+    let own : P (caller_of e.event) = subst P (ap caller_of_word e.is ∙ caller_of_word-word_of e.event e.valid) h.0 in
     subst (λ o. AllByRecursion (λ (x : LoggedEvent). P (caller_of x.event)) (logged_first k (reply_to_word f k w) o (logged_from state_after_word reply_to_word (suc k) (state_after_word f k w) ws))) (sym e.back)
     (own, callers P (suc k) (state_after_word f k w) ws all.1 h.1)
 
@@ -71,7 +71,7 @@ halves : (lanes k : ℕ) (f : FabricState) (boot others : List ℕ) → AllByRec
 halves lanes k f [] others all p q = record { boot = []; others = logged_from state_after_word reply_to_word k f others; is = refl; of_boot = tt; of_lanes = callers (λ c. (1 ≤ c) × (c ≤ lanes)) k f others all q }
 halves lanes k f (w ∷ ws) others all p q =
     let e = word_event w all.0 in
-    let own : caller_of e.event ≡ 0 = sym (ap bearer e.is ∙ bearer-word_of e.event e.valid) ∙ p.0 in
+    let own : caller_of e.event ≡ 0 = sym (ap caller_of_word e.is ∙ caller_of_word-word_of e.event e.valid) ∙ p.0 in
     subst (λ o. Halves lanes (logged_first k (reply_to_word f k w) o (logged_from state_after_word reply_to_word (suc k) (state_after_word f k w) (ws ++ others)))) (sym e.back)
     (more_halves lanes (record { place = k; event = e.event; reply = reply_to_word f k w }) _ own (halves lanes (suc k) (state_after_word f k w) ws others all.1 p.1 q))
 
@@ -125,19 +125,19 @@ if_there : {A : Type 0} {P : Type 0} (o : Option A) → IfSome o (λ a. P) → I
 if_there None f h = absurd (let n : false ≡ true = h in cc)
 if_there (Some a) f h = f
 
-pub lanes_quiet : (xs : List LoggedEvent) (i : ℕ) (ss : List SectionOf) → HaveRecords xs i ss → AllByRecursion IsQuietSection ss → (c : ℕ) → i ≤ c → c < i + length ss → WriteNothing (events_by c xs)
+pub lanes_quiet : (xs : List LoggedEvent) (i : ℕ) (ss : List SectionOf) → HaveRecords xs i ss → AllByRecursion IsQuietSection ss → (c : ℕ) → i ≤ c → c < i + length ss → HaveNoWrites (events_by c xs)
 lanes_quiet xs i [] records q c l u = absurd (omega arith)
 lanes_quiet xs i (s ∷ ss) records q c l u = ⊎_elim
-    (λ (e : i ≡ c). subst (λ n. WriteNothing (events_by n xs)) e (if_there (end_from i s.commands [] (events_by i xs)) (quiet_record i s.commands q.0 [] (events_by i xs)) records.0))
+    (λ (e : i ≡ c). subst (λ n. HaveNoWrites (events_by n xs)) e (if_there (end_of_commands i s.commands [] (events_by i xs)) (quiet_record i s.commands q.0 [] (events_by i xs)) records.0))
     (λ (ne : i ≡ c → ⊥). let less : i + 1 ≤ c = ⊎_elim (λ (a : i < c). omega arith) (λ (b : c ≤ i). absurd (ne (omega arith))) (cases_lt i c) in lanes_quiet xs (i + 1) ss records.1 q.1 c less (omega arith))
     (cases_eq i c)
 
-others_quiet : (lanes : ℕ) (xs : List LoggedEvent) (h : Halves (suc lanes) xs) → ((c : ℕ) → 2 ≤ c → c < 2 + lanes → WriteNothing (events_by c xs)) → AllByRecursion (λ x. is_by 1 x ≡ false → WritesNothing x) h.others
+others_quiet : (lanes : ℕ) (xs : List LoggedEvent) (h : Halves (suc lanes) xs) → ((c : ℕ) → 2 ≤ c → c < 2 + lanes → HaveNoWrites (events_by c xs)) → AllByRecursion (λ x. is_by 1 x ≡ false → IsNoLoggedWrite x) h.others
 others_quiet lanes xs h each =
-    let P : ℕ → LoggedEvent → Type 0 = λ c x. is_by c x ≡ true → (2 ≤ c) × (c < 2 + lanes) → WritesNothing x in
-    let all = all_each P xs (λ c. all_passing (λ x. (2 ≤ c) × (c < 2 + lanes) → WritesNothing x) (is_by c) xs (all_under WritesNothing (events_by c xs) (λ (b : (2 ≤ c) × (c < 2 + lanes)). each c b.0 b.1))) in
+    let P : ℕ → LoggedEvent → Type 0 = λ c x. is_by c x ≡ true → (2 ≤ c) × (c < 2 + lanes) → IsNoLoggedWrite x in
+    let all = all_each P xs (λ c. all_passing (λ x. (2 ≤ c) × (c < 2 + lanes) → IsNoLoggedWrite x) (is_by c) xs (all_under IsNoLoggedWrite (events_by c xs) (λ (b : (2 ≤ c) × (c < 2 + lanes)). each c b.0 b.1))) in
     let parts = all_parts (λ x. (c : ℕ) → P c x) h.boot h.others (subst (AllByRecursion (λ x. (c : ℕ) → P c x)) h.is all) in
-    all_with (IsByLane (suc lanes)) (λ x. (c : ℕ) → P c x) (λ x. is_by 1 x ≡ false → WritesNothing x) h.others
+    all_with (IsByLane (suc lanes)) (λ x. (c : ℕ) → P c x) (λ x. is_by 1 x ≡ false → IsNoLoggedWrite x) h.others
     (λ x l f e. let ne : caller_of x.event ≡ 1 → ⊥ = λ q. let n = sym e ∙ eq-eqb (caller_of x.event) 1 q in let m : false ≡ true = n in cc in
     let a = l.0 in
     let b = l.1 in
@@ -149,7 +149,7 @@ others_quiet lanes xs h each =
 abbrev pub IsLoggedOnZero : LoggedEvent → Type 0
 IsLoggedOnZero x = IsOnZero x.event
 
-quiet_zero : (e : Event) → IsNoWrite e → IsOnZero e
+quiet_zero : (e : Event) → IsNoWriteEvent e → IsOnZero e
 quiet_zero (RegWrite unit caller index value) h = absurd h
 quiet_zero _ h = tt
 
@@ -167,9 +167,9 @@ plan_zero stalls tables xs r =
     (all_both IsLoggedOnZero r.first (r.reads ++ r.rest) (writes_zero 1 stalls r.first r.stalling)
     (all_both IsLoggedOnZero r.reads r.rest (all_of IsDrainRead IsLoggedOnZero r.reads (λ x e. subst IsOnZero (sym e) tt) r.events) (ending r.rest r.ends)))
   where
-    ending : {A B : Type 0} (rest : List LoggedEvent) → (A × (rest ≡ [])) ⊎ (B × (map event_of rest ≡ map (write_by 1) (tables ++ free ∷ []))) → AllByRecursion IsLoggedOnZero rest
+    ending : {A B : Type 0} (rest : List LoggedEvent) → (A × (rest ≡ [])) ⊎ (B × (map event_of rest ≡ map (write_by 1) (tables ++ release_write ∷ []))) → AllByRecursion IsLoggedOnZero rest
     ending rest (inl e) = subst (AllByRecursion IsLoggedOnZero) (sym e.1) tt
-    ending rest (inr e) = writes_zero 1 (tables ++ free ∷ []) rest e.1
+    ending rest (inr e) = writes_zero 1 (tables ++ release_write ∷ []) rest e.1
 
 -- ---- together
 
@@ -179,14 +179,14 @@ pub record IsLive (old stalls tables : List RegPair) (xs : List LoggedEvent) : T
   pub is : xs ≡ boot ++ others
   pub boot_events : map event_of boot ≡ map (write_by 0) old
   pub own : IsPlanRecord stalls tables (events_by 1 others)
-  pub quiet : AllByRecursion (λ x. is_by 1 x ≡ false → WritesNothing x) others
+  pub quiet : AllByRecursion (λ x. is_by 1 x ≡ false → IsNoLoggedWrite x) others
   pub on_zero : AllByRecursion IsLoggedOnZero xs
 
-on_zero_by : (xs : List LoggedEvent) → AllByRecursion (λ x. is_by 1 x ≡ false → WritesNothing x) xs → AllByRecursion IsLoggedOnZero (events_by 1 xs) → AllByRecursion IsLoggedOnZero xs
+on_zero_by : (xs : List LoggedEvent) → AllByRecursion (λ x. is_by 1 x ≡ false → IsNoLoggedWrite x) xs → AllByRecursion IsLoggedOnZero (events_by 1 xs) → AllByRecursion IsLoggedOnZero xs
 on_zero_by xs quiet own =
-    all_with (λ x. is_by 1 x ≡ false → WritesNothing x) (λ x. is_by 1 x ≡ true → IsLoggedOnZero x) IsLoggedOnZero xs (λ x f g. by x (is_by 1 x) refl f g) quiet (all_passing IsLoggedOnZero (is_by 1) xs own)
+    all_with (λ x. is_by 1 x ≡ false → IsNoLoggedWrite x) (λ x. is_by 1 x ≡ true → IsLoggedOnZero x) IsLoggedOnZero xs (λ x f g. by x (is_by 1 x) refl f g) quiet (all_passing IsLoggedOnZero (is_by 1) xs own)
   where
-    by : (x : LoggedEvent) (b : Bool) → is_by 1 x ≡ b → (is_by 1 x ≡ false → WritesNothing x) → (is_by 1 x ≡ true → IsLoggedOnZero x) → IsLoggedOnZero x
+    by : (x : LoggedEvent) (b : Bool) → is_by 1 x ≡ b → (is_by 1 x ≡ false → IsNoLoggedWrite x) → (is_by 1 x ≡ true → IsLoggedOnZero x) → IsLoggedOnZero x
     by x true e f g = g e
     by x false e f g = quiet_zero x.event (f e)
 
@@ -195,10 +195,10 @@ pub live_list : (shapes : List Shape) (old stalls tables : List RegPair) (polls 
     → IsLegalHistory shapes boot (plan ∷ lanes) words → IsLive old stalls tables (logged_in shapes words)
 live_list shapes old stalls tables polls boot plan lanes words b p q legal =
     let h = logged_halves (suc (length lanes)) shapes words legal.events legal.order in
-    let booted = some_of (end_from 0 boot.commands [] (events_by 0 (logged_in shapes words))) legal.boot_record in
-    let planned = some_of (end_from 1 plan.commands [] (events_by 1 (logged_in shapes words))) legal.lane_records.0 in
-    let first = writes_record 0 old [] (events_by 0 (logged_in shapes words)) booted.0 (subst (λ cs. end_from 0 cs [] (events_by 0 (logged_in shapes words)) ≡ Some booted.0) b booted.1) in
-    let own = plan_record stalls tables polls [] (events_by 1 (logged_in shapes words)) planned.0 (subst (λ cs. end_from 1 cs [] (events_by 1 (logged_in shapes words)) ≡ Some planned.0) p planned.1) in
+    let booted = some_of (end_of_commands 0 boot.commands [] (events_by 0 (logged_in shapes words))) legal.boot_record in
+    let planned = some_of (end_of_commands 1 plan.commands [] (events_by 1 (logged_in shapes words))) legal.lane_records.0 in
+    let first = writes_record 0 old [] (events_by 0 (logged_in shapes words)) booted.0 (subst (λ cs. end_of_commands 0 cs [] (events_by 0 (logged_in shapes words)) ≡ Some booted.0) b booted.1) in
+    let own = plan_record stalls tables polls [] (events_by 1 (logged_in shapes words)) planned.0 (subst (λ cs. end_of_commands 1 cs [] (events_by 1 (logged_in shapes words)) ≡ Some planned.0) p planned.1) in
     let mine = subst (IsPlanRecord stalls tables) (own_others (suc (length lanes)) (logged_in shapes words) h) own in
     let events : map event_of h.boot ≡ map (write_by 0) old = ap (map event_of) (sym (own_boot (suc (length lanes)) (logged_in shapes words) h)) ∙ first in
     let silent = others_quiet (length lanes) (logged_in shapes words) h (lanes_quiet (logged_in shapes words) 2 lanes legal.lane_records.1 q) in

@@ -19,7 +19,7 @@ use Rattle.policy_compiler.specs.declared.image.RegPair.{RegPair}
 use Rattle.unit_core.specs.Histories.{History, event_at, reply_at, history_of, logged_in}
 use Rattle.unit_core.specs.Updates.{ReadsDrained, IsDrainedReading}
 use Rattle.history_laws.proofs.WordHistories.{is_entry, has_entry}
-use Rattle.history_laws.proofs.QuietRecords.{WritesNothing}
+use Rattle.history_laws.proofs.QuietRecords.{IsNoLoggedWrite}
 use Rattle.history_laws.proofs.Writes.{writes, all_get, get_append, get_low}
 use Rattle.history_laws.proofs.WriteRecords.{event_of, same_read}
 use Rattle.history_laws.proofs.LiveLists.{IsLive, events_logged}
@@ -116,9 +116,9 @@ not_drained h xs log k x e none read = by (hits 1 0 x.reply) refl
 -- ---- past the boot section
 
 -- An event that writes nothing stands after the boot section.
-pub past_boot : (old stalls tables : List RegPair) (xs : List LoggedEvent) (v : IsLive old stalls tables xs) (k : ℕ) (x : LoggedEvent) → slice_get xs k ≡ Some x → WritesNothing x → length v.boot ≤ k
+pub past_boot : (old stalls tables : List RegPair) (xs : List LoggedEvent) (v : IsLive old stalls tables xs) (k : ℕ) (x : LoggedEvent) → slice_get xs k ≡ Some x → IsNoLoggedWrite x → length v.boot ≤ k
 past_boot old stalls tables xs v k x e q = ⊎_elim
-    (λ (low : k < length v.boot). absurd (all_get (λ x. WritesNothing x → ⊥) v.boot k x (loud 0 old v.boot v.boot_events) (sym (get_low v.boot v.others k low) ∙ (ap (λ ys. slice_get ys k) (sym v.is) ∙ e)) q))
+    (λ (low : k < length v.boot). absurd (all_get (λ x. IsNoLoggedWrite x → ⊥) v.boot k x (loud 0 old v.boot v.boot_events) (sym (get_low v.boot v.others k low) ∙ (ap (λ ys. slice_get ys k) (sym v.is) ∙ e)) q))
     (λ (high : length v.boot ≤ k). high)
     (cases_lt k (length v.boot))
 
@@ -138,7 +138,7 @@ writes_upto old stalls tables xs v m =
     ∙ (ap writes_in (take-append-add v.boot v.others m)
     ∙ (writes_both v.boot (take m v.others)
     ∙ (ap (λ ws. ws ++ writes_in (take m v.others)) (ap writes v.boot_events ∙ writes_by 0 old)
-    ∙ ap (λ ws. old ++ ws) (of_one (take m v.others) (all_taken (λ x. is_by 1 x ≡ false → WritesNothing x) v.others m v.quiet)))))
+    ∙ ap (λ ws. old ++ ws) (of_one (take m v.others) (all_taken (λ x. is_by 1 x ≡ false → IsNoLoggedWrite x) v.others m v.quiet)))))
 
 pub writes_whole : (old stalls tables : List RegPair) (xs : List LoggedEvent) (v : IsLive old stalls tables xs) → writes_in xs ≡ old ++ writes_in (events_by 1 v.others)
 writes_whole old stalls tables xs v =

@@ -11,7 +11,7 @@ use Rattle.event_words.specs.declared.event.Event.{Event}
 use Rattle.event_words.specs.declared.event.Event.TheVariants.{RegWrite, RegRead, Submit, Judge, Aim, Wide}
 use Rattle.event_words.specs.declared.reply.Reply.{Reply}
 use Rattle.event_words.specs.declared.reply.Reply.TheVariants as replies
-use Rattle.event_words.specs.Word.{event_at}
+use Rattle.event_words.specs.Word.{event_of_word}
 use Rattle.unit_core.specs.declared.Submission.{Submission}
 use Rattle.unit_core.specs.Submissions.{is_item}
 use Rattle.unit_core.specs.Units.{UnitState, FabricState, aim_of, wide_access, unit_step, submit_step, step_at, taken_step, fabric_step, decoded_step}
@@ -124,12 +124,12 @@ decide_word p s (Some e) = decide p s e
 
 pub law_no_such : LawNoSuch
 law_no_such s place word = ⊎_elim
-    (λ (same : (decoded_step place s (event_at word) ≡ (s, replies.NoSuch)) × FindsNothing s (event_at word)). record {
+    (λ (same : (decoded_step place s (event_of_word word) ≡ (s, replies.NoSuch)) × FindsNothing s (event_of_word word)). record {
       exactly = (λ q. same.1, λ c. ap (λ (r : FabricState × Reply). r.1) same.0);
       stays = λ q. ap (λ (r : FabricState × Reply). r.0) same.0;
     })
-    (λ (other : ((decoded_step place s (event_at word)).1 ≡ replies.NoSuch → ⊥) × (FindsNothing s (event_at word) → ⊥)). record {
+    (λ (other : ((decoded_step place s (event_of_word word)).1 ≡ replies.NoSuch → ⊥) × (FindsNothing s (event_of_word word) → ⊥)). record {
       exactly = (λ q. absurd (other.0 q), λ c. absurd (other.1 c));
       stays = λ q. absurd (other.0 q);
     })
-    (decide_word place s (event_at word))
+    (decide_word place s (event_of_word word))

@@ -9,9 +9,9 @@ use Rattle.event_words.specs.declared.record.LoggedEvent.{LoggedEvent}
 use Rattle.event_words.specs.Valid.{IsValidEvent}
 use Rattle.event_words.specs.Word.{word_of}
 use Rattle.event_words.specs.Events.{caller_of}
-use Rattle.event_words.specs.Runs.{bearer, IsEventWord, logged_from, logged_first}
+use Rattle.event_words.specs.Runs.{caller_of_word, IsEventWord, logged_from, logged_first}
 use Rattle.event_words.specs.Records.{section_end, events_by, is_by}
-use Rattle.event_words.proofs.Runs.{bearer-word_of, event_at-word_of}
+use Rattle.event_words.proofs.Runs.{caller_of_word-word_of, event_of_word-word_of}
 use Rattle.unit_core.specs.Units.{FabricState, fabric_at_reset}
 use Rattle.unit_core.specs.Fabrics.{state_after_word, reply_to_word}
 use Rattle.unit_core.specs.Histories.{BootComesFirst, IsBoot, IsOfLane, logged_in}
@@ -35,7 +35,7 @@ boot_events [] all boot = record { events = []; is = refl; valid = tt; own = tt 
 boot_events (w ∷ ws) all boot =
     let rest = boot_events ws all.1 boot.1 in
     let first = word_event w all.0 in
-    let own : caller_of first.event ≡ 0 = sym (bearer-word_of first.event first.valid) ∙ ap bearer (sym first.is) ∙ boot.0 in
+    let own : caller_of first.event ≡ 0 = sym (caller_of_word-word_of first.event first.valid) ∙ ap caller_of_word (sym first.is) ∙ boot.0 in
     let words : w ∷ ws ≡ word_of first.event ∷ map word_of rest.events = let p = first.is in let q = rest.is in cc in
     record { events = first.event ∷ rest.events; is = words; valid = (first.valid, rest.valid); own = (own, rest.own) }
 
@@ -58,7 +58,7 @@ all_boot words h =
 logged_entries : (k : ℕ) (s : FabricState) (es : List Event) → AllByRecursion IsValidEvent es → logged_from state_after_word reply_to_word k s (map word_of es) ≡ boot_entries k s es
 logged_entries k s [] v = refl
 logged_entries k s (e ∷ es) v =
-    ap (λ o. logged_first k (reply_to_word s k (word_of e)) o (logged_from state_after_word reply_to_word (suc k) (state_after_word s k (word_of e)) (map word_of es))) (event_at-word_of e v.0)
+    ap (λ o. logged_first k (reply_to_word s k (word_of e)) o (logged_from state_after_word reply_to_word (suc k) (state_after_word s k (word_of e)) (map word_of es))) (event_of_word-word_of e v.0)
     ∙ ap (λ xs. record { place = k; event = e; reply = reply_to_word s k (word_of e) } ∷ xs) (logged_entries (suc k) (state_after_word s k (word_of e)) es v.1)
 
 own_entries : (k : ℕ) (s : FabricState) (es : List Event) → AllByRecursion (λ e. caller_of e ≡ 0) es → events_by 0 (boot_entries k s es) ≡ boot_entries k s es

@@ -15,7 +15,7 @@ use Rattle.event_words.specs.Word.{word_of, kind_code}
 use Rattle.event_words.specs.Events.{same_event, same_access}
 use Rattle.event_words.specs.Sections.{stage_units}
 use Rattle.event_words.specs.Valid.{is_narrow}
-use Rattle.event_words.specs.Records.{OpenSlot, first_as, judgements, polls, is_held, is_taken, is_aimed, hits, wide_event, second_as, submission_as, opened_slot, closed_by, one_piece, submit_piece, settled, settle_piece, until_piece, next_requester, stage_following, stage_judged, stage_piece, aimed_piece, one_stage, through_stages, through_piece, nothing_left, after_piece, end_from, slot_of}
+use Rattle.event_words.specs.Records.{OpenSlot, take_event, judgements, polls, is_held, is_taken, is_aimed, hits, wide_event, take_event_after, take_submission, opened_slot, closed_by, one_piece, submit_piece, settled, settle_piece, until_piece, next_requester, stage_following, stage_judged, stage_piece, aimed_piece, one_stage, through_stages, through_piece, nothing_left, after_piece, end_of_commands, slot_of}
 
 -- ---- the same event has the same word
 
@@ -112,7 +112,7 @@ module _ {S : Type 0} (after : S → ℕ → ℕ → S) (reply : S → ℕ → �
       → C (Some (record { place = k; event = x; reply = r }, entries (suc k) s v)) ≡ Some a → C (Some (record { place = k; event = y; reply = r }, entries (suc k) s w)) ≡ Some b → Same v w
 
   one_same : (C : Option (LoggedEvent × List LoggedEvent) → Option SectionEnd) → C None ≡ None → (e : Event) (k : ℕ) (s : S) (v w : List Event) (a b : SectionEnd)
-      → C (first_as e (entries k s v)) ≡ Some a → C (first_as e (entries k s w)) ≡ Some b → AfterOne C a b k → Same v w
+      → C (take_event e (entries k s v)) ≡ Some a → C (take_event e (entries k s w)) ≡ Some b → AfterOne C a b k → Same v w
   one_same C none e k s [] w a b h g go = nothing C a none h
   one_same C none e k s (x ∷ v) [] a b h g go = nothing C b none g
   one_same C none e k s (x ∷ v) (y ∷ w) a b h g go =
@@ -130,11 +130,11 @@ module _ {S : Type 0} (after : S → ℕ → ℕ → S) (reply : S → ℕ → �
   -- ---- a submission of one event or two
 
   submission_same : (C : Option (LoggedEvent × List LoggedEvent) → Option SectionEnd) → C None ≡ None → (unit caller : ℕ) (access : Access) (k : ℕ) (s : S) (v w : List Event) (a b : SectionEnd)
-      → C (submission_as unit caller access (entries k s v)) ≡ Some a → C (submission_as unit caller access (entries k s w)) ≡ Some b → ((j : ℕ) → AfterOne C a b j) → Same v w
+      → C (take_submission unit caller access (entries k s v)) ≡ Some a → C (take_submission unit caller access (entries k s w)) ≡ Some b → ((j : ℕ) → AfterOne C a b j) → Same v w
   submission_same C none unit caller access k s v w a b h g go =
       by_bool (is_narrow access)
       (λ t. one_same C none (events.Submit unit caller access) k s v w a b (chosen C (is_narrow access) true _ _ (Some a) t h) (chosen C (is_narrow access) true _ _ (Some b) t g) (go k))
-      (λ t. one_same (λ o. C (second_as (wide_event unit caller access) o)) none (events.Aim caller access.addr) k s v w a b (chosen C (is_narrow access) false _ _ (Some a) t h) (chosen C (is_narrow access) false _ _ (Some b) t g)
+      (λ t. one_same (λ o. C (take_event_after (wide_event unit caller access) o)) none (events.Aim caller access.addr) k s v w a b (chosen C (is_narrow access) false _ _ (Some a) t h) (chosen C (is_narrow access) false _ _ (Some b) t g)
       (λ r x y s' v' w' p q. one_same C none (wide_event unit caller access) (suc k) s' v' w' a b p q (go (suc k))))
 
   -- ---- judgements
@@ -203,7 +203,7 @@ module _ {S : Type 0} (after : S → ℕ → ℕ → S) (reply : S → ℕ → �
   following_same C more a b each go (Some next) k s v w h g = each next k s v w h g
 
   stage_same : (C : Option (List LoggedEvent) → Option SectionEnd) → C None ≡ None → (caller max unit : ℕ) (more : ℕ → List LoggedEvent → Option (List LoggedEvent)) (e : Event) (k : ℕ) (s : S) (v w : List Event) (a b : SectionEnd)
-      → C (stage_piece caller max unit more (first_as e (entries k s v))) ≡ Some a → C (stage_piece caller max unit more (first_as e (entries k s w))) ≡ Some b → IsGoingOn C more a b → AfterStages C a b → Same v w
+      → C (stage_piece caller max unit more (take_event e (entries k s v))) ≡ Some a → C (stage_piece caller max unit more (take_event e (entries k s w))) ≡ Some b → IsGoingOn C more a b → AfterStages C a b → Same v w
   stage_same C none caller max unit more e k s v w a b h g each go =
       one_same (λ o. C (stage_piece caller max unit more o)) none e k s v w a b h g
       (λ r x y s' v' w' p q. by_bool (is_taken r)
@@ -237,35 +237,35 @@ module _ {S : Type 0} (after : S → ℕ → ℕ → S) (reply : S → ℕ → �
 
   abbrev IsDetermined : ℕ → List Command → Type 0
   IsDetermined caller cs = (slots : List (Option OpenSlot)) (k : ℕ) (s : S) (v w : List Event) (a b : SectionEnd)
-      → end_from caller cs slots (entries k s v) ≡ Some a → end_from caller cs slots (entries k s w) ≡ Some b → Same v w
+      → end_of_commands caller cs slots (entries k s v) ≡ Some a → end_of_commands caller cs slots (entries k s w) ≡ Some b → Same v w
 
   slot_same : (caller : ℕ) (cs : List Command) → IsDetermined caller cs → (max : ℕ) (slots : List (Option OpenSlot)) (i : ℕ) (o : Option OpenSlot) (k : ℕ) (s : S) (v w : List Event) (a b : SectionEnd)
-      → after_piece (end_from caller cs) (settle_piece caller max slots i o (entries k s v)) ≡ Some a → after_piece (end_from caller cs) (settle_piece caller max slots i o (entries k s w)) ≡ Some b → Same v w
+      → after_piece (end_of_commands caller cs) (settle_piece caller max slots i o (entries k s v)) ≡ Some a → after_piece (end_of_commands caller cs) (settle_piece caller max slots i o (entries k s w)) ≡ Some b → Same v w
   slot_same caller cs rest max slots i None k s v w a b h g = rest slots k s v w a b h g
   slot_same caller cs rest max slots i (Some slot) k s v w a b h g =
-      judged_same (λ o. after_piece (end_from caller cs) (settled slots i o)) refl max (events.Judge slot.unit caller slot.place) k s v w a b h g
+      judged_same (λ o. after_piece (end_of_commands caller cs) (settled slots i o)) refl max (events.Judge slot.unit caller slot.place) k s v w a b h g
       (λ r k' s' v' w' p q. rest (closed_by r i slots) k' s' v' w' a b p q)
 
   until_same : (caller : ℕ) (cs : List Command) → IsDetermined caller cs → (slots : List (Option OpenSlot)) (a b : SectionEnd) (hit : Bool) (k : ℕ) (s : S) (v w : List Event)
-      → after_piece (end_from caller cs) (until_piece slots (Some (hit, entries k s v))) ≡ Some a → after_piece (end_from caller cs) (until_piece slots (Some (hit, entries k s w))) ≡ Some b → Same v w
+      → after_piece (end_of_commands caller cs) (until_piece slots (Some (hit, entries k s v))) ≡ Some a → after_piece (end_of_commands caller cs) (until_piece slots (Some (hit, entries k s w))) ≡ Some b → Same v w
   until_same caller cs rest slots a b true k s v w h g = rest slots k s v w a b h g
   until_same caller cs rest slots a b false k s v w h g = nothing_same Stopped k s v w a b h g
 
   pub section_same : (caller : ℕ) (cs : List Command) → IsDetermined caller cs
   section_same caller [] slots k s v w a b h g = nothing_same Done k s v w a b h g
   section_same caller (Write unit index value ∷ cs) slots k s v w a b h g =
-      one_same (λ o. after_piece (end_from caller cs) (one_piece slots o)) refl (events.RegWrite unit caller index value) k s v w a b h g
+      one_same (λ o. after_piece (end_of_commands caller cs) (one_piece slots o)) refl (events.RegWrite unit caller index value) k s v w a b h g
       (λ r x y s' v' w' p q. section_same caller cs slots (suc k) s' v' w' a b p q)
   section_same caller (Read unit index ∷ cs) slots k s v w a b h g =
-      one_same (λ o. after_piece (end_from caller cs) (one_piece slots o)) refl (events.RegRead unit caller index) k s v w a b h g
+      one_same (λ o. after_piece (end_of_commands caller cs) (one_piece slots o)) refl (events.RegRead unit caller index) k s v w a b h g
       (λ r x y s' v' w' p q. section_same caller cs slots (suc k) s' v' w' a b p q)
   section_same caller (Submit unit access slot ∷ cs) slots k s v w a b h g =
-      submission_same (λ o. after_piece (end_from caller cs) (submit_piece slots unit o)) refl unit caller access k s v w a b h g
+      submission_same (λ o. after_piece (end_of_commands caller cs) (submit_piece slots unit o)) refl unit caller access k s v w a b h g
       (λ j r x y s' v' w' p q. section_same caller cs (slots ++ opened_slot unit (record { place = j; event = x; reply = r }) ∷ []) (suc j) s' v' w' a b p q)
   section_same caller (Judge slot ∷ cs) slots k s v w a b h g = slot_same caller cs (section_same caller cs) 1 slots slot (slot_of slots slot) k s v w a b h g
   section_same caller (Settle slot max ∷ cs) slots k s v w a b h g = slot_same caller cs (section_same caller cs) max slots slot (slot_of slots slot) k s v w a b h g
   section_same caller (Until unit index mask value max ∷ cs) slots k s v w a b h g =
-      polled_same (λ o. after_piece (end_from caller cs) (until_piece slots o)) refl max (events.RegRead unit caller index) mask value k s v w a b h g (until_same caller cs (section_same caller cs) slots a b)
+      polled_same (λ o. after_piece (end_of_commands caller cs) (until_piece slots o)) refl max (events.RegRead unit caller index) mask value k s v w a b h g (until_same caller cs (section_same caller cs) slots a b)
   section_same caller (Through stages access max ∷ cs) slots k s v w a b h g =
-      stages_same (λ o. after_piece (end_from caller cs) (through_piece slots o)) refl caller max access (stage_units stages) access.rrid k s v w a b h g
+      stages_same (λ o. after_piece (end_of_commands caller cs) (through_piece slots o)) refl caller max access (stage_units stages) access.rrid k s v w a b h g
       (λ k' s' v' w' p q. section_same caller cs slots k' s' v' w' a b p q)

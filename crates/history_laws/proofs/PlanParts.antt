@@ -11,9 +11,9 @@ use Rattle.event_words.specs.declared.record.LoggedEvent.{LoggedEvent}
 use Rattle.event_words.specs.Records.{hits, events_by, is_by}
 use Rattle.policy_compiler.specs.declared.image.RegPair.{RegPair}
 use Rattle.policy_compiler.proofs.Standing.{value_from}
-use Rattle.history_laws.proofs.QuietRecords.{IsNoWrite, WritesNothing}
+use Rattle.history_laws.proofs.QuietRecords.{IsNoWriteEvent, IsNoLoggedWrite}
 use Rattle.history_laws.proofs.Writes.{write_of, writes, writes_append, append_nothing, nothing_after, all_parts, CutInFirst, CutInSecond, two_cuts}
-use Rattle.history_laws.proofs.WriteRecords.{write_by, event_of, IsDrainRead, Misses, HasHit, PlanEnds, IsPlanRecord, free}
+use Rattle.history_laws.proofs.WriteRecords.{write_by, event_of, IsDrainRead, Misses, HasHit, PlanEnds, IsPlanRecord, release_write}
 use Rattle.history_laws.proofs.UnitStands.{flag_from}
 
 -- ---- writes of logged events
@@ -32,12 +32,12 @@ pub writes_by : (c : ℕ) (ws : List RegPair) → writes (map (write_by c) ws) �
 writes_by c [] = refl
 writes_by c (w ∷ ws) = ap (λ vs. w ∷ vs) (writes_by c ws)
 
-pub silent : (e : Event) → IsNoWrite e → write_of e ≡ []
+pub silent : (e : Event) → IsNoWriteEvent e → write_of e ≡ []
 silent (RegWrite unit caller index value) h = absurd h
 silent _ h = refl
 
 -- only caller 1 writes
-pub of_one : (xs : List LoggedEvent) → AllByRecursion (λ x. is_by 1 x ≡ false → WritesNothing x) xs → writes_in xs ≡ writes_in (events_by 1 xs)
+pub of_one : (xs : List LoggedEvent) → AllByRecursion (λ x. is_by 1 x ≡ false → IsNoLoggedWrite x) xs → writes_in xs ≡ writes_in (events_by 1 xs)
 of_one [] h = refl
 of_one (x ∷ xs) h = by (is_by 1 x) refl (of_one xs h.1)
   where
@@ -46,7 +46,7 @@ of_one (x ∷ xs) h = by (is_by 1 x) refl (of_one xs h.1)
     by false e rest = ap (λ ws. ws ++ writes_in xs) (silent x.event (h.0 e)) ∙ rest
 
 -- and where it writes nothing nobody does
-pub of_none : (xs : List LoggedEvent) → AllByRecursion (λ x. is_by 1 x ≡ true → WritesNothing x) xs → writes_in (events_by 1 xs) ≡ []
+pub of_none : (xs : List LoggedEvent) → AllByRecursion (λ x. is_by 1 x ≡ true → IsNoLoggedWrite x) xs → writes_in (events_by 1 xs) ≡ []
 of_none [] h = refl
 of_none (x ∷ xs) h = by (is_by 1 x) refl (of_none xs h.1)
   where
@@ -108,7 +108,7 @@ write_there (suc m) (suc n) (y ∷ xs) x w l h e v z = write_there m n xs x w (o
 
 -- its writes: the stalls alone, or all
 abbrev pub IsUpdate : List RegPair → List RegPair → List RegPair → Type 0
-IsUpdate stalls tables ws = (ws ≡ stalls) ⊎ (ws ≡ stalls ++ (tables ++ free ∷ []))
+IsUpdate stalls tables ws = (ws ≡ stalls) ⊎ (ws ≡ stalls ++ (tables ++ release_write ∷ []))
 
 stalls_written : (stalls tables : List RegPair) (r : List LoggedEvent) (p : IsPlanRecord stalls tables r) → writes_in p.first ≡ stalls
 stalls_written stalls tables r p = ap writes p.stalling ∙ writes_by 1 stalls
@@ -123,9 +123,9 @@ record_writes stalls tables r p =
 pub plan_writes : (stalls tables : List RegPair) (r : List LoggedEvent) → IsPlanRecord stalls tables r → IsUpdate stalls tables (writes_in r)
 plan_writes stalls tables r p = ending p.rest p.ends (record_writes stalls tables r p)
   where
-    ending : {A B : Type 0} (rest : List LoggedEvent) → (A × (rest ≡ [])) ⊎ (B × (map event_of rest ≡ map (write_by 1) (tables ++ free ∷ []))) → writes_in r ≡ stalls ++ writes_in rest → IsUpdate stalls tables (writes_in r)
+    ending : {A B : Type 0} (rest : List LoggedEvent) → (A × (rest ≡ [])) ⊎ (B × (map event_of rest ≡ map (write_by 1) (tables ++ release_write ∷ []))) → writes_in r ≡ stalls ++ writes_in rest → IsUpdate stalls tables (writes_in r)
     ending rest (inl e) w = inl (w ∙ (ap (λ ys. stalls ++ writes_in ys) e.1 ∙ append_nothing stalls))
-    ending rest (inr e) w = inr (w ∙ ap (λ es. stalls ++ es) (ap writes e.1 ∙ writes_by 1 (tables ++ free ∷ [])))
+    ending rest (inr e) w = inr (w ∙ ap (λ es. stalls ++ es) (ap writes e.1 ∙ writes_by 1 (tables ++ release_write ∷ [])))
 
 -- ---- before the drained reading
 
@@ -173,29 +173,29 @@ missed : (reads q z : List LoggedEvent) (x : LoggedEvent) → reads ≡ q ++ x �
 missed reads q z x e m = (all_parts Misses q (x ∷ z) (subst (AllByRecursion Misses) e m)).1.0
 
 -- events of writes
-pub loud : (c : ℕ) (ws : List RegPair) (xs : List LoggedEvent) → map event_of xs ≡ map (write_by c) ws → AllByRecursion (λ x. WritesNothing x → ⊥) xs
+pub loud : (c : ℕ) (ws : List RegPair) (xs : List LoggedEvent) → map event_of xs ≡ map (write_by c) ws → AllByRecursion (λ x. IsNoLoggedWrite x → ⊥) xs
 loud c ws [] h = tt
 loud c [] (x ∷ xs) h = absurd (let n : x.event ∷ map event_of xs ≡ [] = h in cc)
 loud c (w ∷ ws) (x ∷ xs) h =
     let e : x.event ≡ write_by c w = cc in
     let rest : map event_of xs ≡ map (write_by c) ws = cc in
-    (λ q. subst IsNoWrite e q, loud c ws xs rest)
+    (λ q. subst IsNoWriteEvent e q, loud c ws xs rest)
 
 -- the plan writes the rest, and before the reading it wrote the stalls
 pub record IsAtReading (stalls tables : List RegPair) (r q : List LoggedEvent) : Type 0 where
-  pub whole : writes_in r ≡ stalls ++ (tables ++ free ∷ [])
+  pub whole : writes_in r ≡ stalls ++ (tables ++ release_write ∷ [])
   pub before : writes_in q ≡ stalls
 
 module _ (stalls tables : List RegPair) (r q z : List LoggedEvent) (x : LoggedEvent) (p : IsPlanRecord stalls tables r) (e : q ++ x ∷ z ≡ r) (read : IsDrainRead x) (hit : hits 1 0 x.reply ≡ true) where
-  writes_nothing : WritesNothing x
-  writes_nothing = subst IsNoWrite (sym read) tt
+  writes_nothing : IsNoLoggedWrite x
+  writes_nothing = subst IsNoWriteEvent (sym read) tt
 
   no_stall : (a b : List LoggedEvent) → p.first ≡ a ++ x ∷ b → ⊥
-  no_stall a b f = (all_parts (λ x. WritesNothing x → ⊥) a (x ∷ b) (subst (AllByRecursion (λ x. WritesNothing x → ⊥)) f (loud 1 stalls p.first p.stalling))).1.0 writes_nothing
+  no_stall a b f = (all_parts (λ x. IsNoLoggedWrite x → ⊥) a (x ∷ b) (subst (AllByRecursion (λ x. IsNoLoggedWrite x → ⊥)) f (loud 1 stalls p.first p.stalling))).1.0 writes_nothing
 
   no_end : (a b : List LoggedEvent) → p.rest ≡ a ++ x ∷ b → PlanEnds tables p.reads p.rest → ⊥
   no_end a b f (inl m) = let n = nothing_after a (x ∷ b) (sym f ∙ m.1) in let k : x ∷ b ≡ [] = n in cc
-  no_end a b f (inr m) = (all_parts (λ x. WritesNothing x → ⊥) a (x ∷ b) (subst (AllByRecursion (λ x. WritesNothing x → ⊥)) f (loud 1 (tables ++ free ∷ []) p.rest m.1))).1.0 writes_nothing
+  no_end a b f (inr m) = (all_parts (λ x. IsNoLoggedWrite x → ⊥) a (x ∷ b) (subst (AllByRecursion (λ x. IsNoLoggedWrite x → ⊥)) f (loud 1 (tables ++ release_write ∷ []) p.rest m.1))).1.0 writes_nothing
 
   -- the cut is among the reads
   record AmongReads : Type 0 where
@@ -235,9 +235,9 @@ module _ (stalls tables : List RegPair) (r q z : List LoggedEvent) (x : LoggedEv
         before = ap writes_in c.part ∙ (writes_both p.first c.early ∙ (ap (λ ws. writes_in p.first ++ ws) silent ∙ (append_nothing (writes_in p.first) ∙ stalls_written stalls tables r p)));
       }
     where
-      ending : PlanEnds tables p.reads p.rest → writes_in r ≡ stalls ++ writes_in p.rest → writes_in r ≡ stalls ++ (tables ++ free ∷ [])
+      ending : PlanEnds tables p.reads p.rest → writes_in r ≡ stalls ++ writes_in p.rest → writes_in r ≡ stalls ++ (tables ++ release_write ∷ [])
       ending (inl m) w = let c = among_reads in absurd (let n : false ≡ true = sym (missed p.reads c.early c.late x c.reads m.0) ∙ hit in cc)
-      ending (inr m) w = w ∙ ap (λ es. stalls ++ es) (ap writes m.1 ∙ writes_by 1 (tables ++ free ∷ []))
+      ending (inr m) w = w ∙ ap (λ es. stalls ++ es) (ap writes m.1 ∙ writes_by 1 (tables ++ release_write ∷ []))
 
 -- ---- between the drained reading and the release
 
@@ -260,13 +260,13 @@ flag_kept s b (w ∷ ws) h =
     ∙ flag_kept s b ws h.1
 
 -- A part without the last write is one of the tables' writes.
-pub tables_part : (tables a b : List RegPair) → a ++ b ≡ tables ++ free ∷ [] → (b ≡ [] → ⊥) → (c : List RegPair) × (tables ≡ a ++ c)
-tables_part tables a b e ne = by (two_cuts a b tables (free ∷ []) e)
+pub tables_part : (tables a b : List RegPair) → a ++ b ≡ tables ++ release_write ∷ [] → (b ≡ [] → ⊥) → (c : List RegPair) × (tables ≡ a ++ c)
+tables_part tables a b e ne = by (two_cuts a b tables (release_write ∷ []) e)
   where
-    last : (more : List RegPair) → more ++ b ≡ free ∷ [] → a ≡ tables ++ more → (c : List RegPair) × (tables ≡ a ++ c)
+    last : (more : List RegPair) → more ++ b ≡ release_write ∷ [] → a ≡ tables ++ more → (c : List RegPair) × (tables ≡ a ++ c)
     last [] f g = ([], sym (append_nothing a ∙ (g ∙ append_nothing tables)))
     last (y ∷ more) f g = let rest : more ++ b ≡ [] = cc in absurd (ne (nothing_after more b rest))
 
-    by : CutInFirst a b tables (free ∷ []) ⊎ CutInSecond a b tables (free ∷ []) → (c : List RegPair) × (tables ≡ a ++ c)
+    by : CutInFirst a b tables (release_write ∷ []) ⊎ CutInSecond a b tables (release_write ∷ []) → (c : List RegPair) × (tables ≡ a ++ c)
     by (inl c) = (c.more, c.first)
     by (inr c) = last c.more c.rest c.taken

@@ -9,24 +9,24 @@ use Rattle.event_words.specs.declared.record.SectionEnd.{SectionEnd}
 use Rattle.event_words.specs.declared.section.Command.{Command}
 use Rattle.event_words.specs.declared.section.Command.TheVariants.{Write}
 use Rattle.event_words.specs.Events.{same_event}
-use Rattle.event_words.specs.Records.{OpenSlot, end_from}
-use Rattle.event_words.specs.Sections.{IsNoWrite as IsQuiet, most_events}
+use Rattle.event_words.specs.Records.{OpenSlot, end_of_commands}
+use Rattle.event_words.specs.Sections.{IsNoRegisterWrite as IsQuiet, most_events}
 use Rattle.event_words.proofs.RecordCuts.{GoesOn, MayWrite, whole_record}
 
 -- ---- events that write nothing
 
-abbrev pub IsNoWrite : Event → Type 0
-IsNoWrite (events.RegWrite unit caller index value) = ⊥
-IsNoWrite _ = Unit {0}
+abbrev pub IsNoWriteEvent : Event → Type 0
+IsNoWriteEvent (events.RegWrite unit caller index value) = ⊥
+IsNoWriteEvent _ = Unit {0}
 
-abbrev pub WritesNothing : LoggedEvent → Type 0
-WritesNothing x = IsNoWrite x.event
+abbrev pub IsNoLoggedWrite : LoggedEvent → Type 0
+IsNoLoggedWrite x = IsNoWriteEvent x.event
 
-abbrev pub WriteNothing : List LoggedEvent → Type 0
-WriteNothing = AllByRecursion WritesNothing
+abbrev pub HaveNoWrites : List LoggedEvent → Type 0
+HaveNoWrites = AllByRecursion IsNoLoggedWrite
 
 -- an event equal to one that writes nothing writes nothing
-same_no_write : (e f : Event) → IsNoWrite e → same_event e f ≡ true → IsNoWrite f
+same_no_write : (e f : Event) → IsNoWriteEvent e → same_event e f ≡ true → IsNoWriteEvent f
 same_no_write (events.RegWrite u c i v) f h s = absurd h
 same_no_write (events.RegRead u c i) (events.RegWrite u' c' i' v') h s = absurd (let n : false ≡ true = s in cc)
 same_no_write (events.Submit u c a) (events.RegWrite u' c' i' v') h s = absurd (let n : false ≡ true = s in cc)
@@ -43,9 +43,9 @@ same_no_write _ (events.Wide u' c' r' k' n') h s = tt
 
 -- the events up to those that are left write nothing
 abbrev Spares : ℕ → List LoggedEvent → List LoggedEvent → Type 0
-Spares n xs rest = WriteNothing rest → WriteNothing xs
+Spares n xs rest = HaveNoWrites rest → HaveNoWrites xs
 
-quiet_goes_on : GoesOn IsNoWrite Spares
+quiet_goes_on : GoesOn IsNoWriteEvent Spares
 quiet_goes_on = record {
   none = λ xs h. h;
   one = λ e q x xs t h. (same_no_write e x.event q t, h);
@@ -58,17 +58,17 @@ quiet_goes_on = record {
   wide = λ u c r k n. tt;
 }
 
-no_writes : (caller : ℕ) (cs : List Command) → AllByRecursion IsQuiet cs → AllByRecursion (MayWrite IsNoWrite caller) cs
+no_writes : (caller : ℕ) (cs : List Command) → AllByRecursion IsQuiet cs → AllByRecursion (MayWrite IsNoWriteEvent caller) cs
 no_writes caller [] q = tt
 no_writes caller (c ∷ cs) q = (no_write c q.0, no_writes caller cs q.1)
   where
-    no_write : (c : Command) → IsQuiet c → MayWrite IsNoWrite caller c
+    no_write : (c : Command) → IsQuiet c → MayWrite IsNoWriteEvent caller c
     no_write (Write unit index value) q = q
     no_write _ q = tt
 
-pub quiet_record : (caller : ℕ) (cs : List Command) → AllByRecursion IsQuiet cs → (slots : List (Option OpenSlot)) (xs : List LoggedEvent) → IfSome (end_from caller cs slots xs) (λ e. WriteNothing xs)
-quiet_record caller cs q slots xs = by (end_from caller cs slots xs) (whole_record IsNoWrite Spares quiet_goes_on caller cs (no_writes caller cs q) slots xs)
+pub quiet_record : (caller : ℕ) (cs : List Command) → AllByRecursion IsQuiet cs → (slots : List (Option OpenSlot)) (xs : List LoggedEvent) → IfSome (end_of_commands caller cs slots xs) (λ e. HaveNoWrites xs)
+quiet_record caller cs q slots xs = by (end_of_commands caller cs slots xs) (whole_record IsNoWriteEvent Spares quiet_goes_on caller cs (no_writes caller cs q) slots xs)
   where
-    by : (o : Option SectionEnd) → IfSome o (λ e. Spares (sum_by most_events cs) xs []) → IfSome o (λ e. WriteNothing xs)
+    by : (o : Option SectionEnd) → IfSome o (λ e. Spares (sum_by most_events cs) xs []) → IfSome o (λ e. HaveNoWrites xs)
     by None h = tt
     by (Some end) h = h tt

@@ -35,9 +35,9 @@ use Rattle.unit_core.proofs.Runs.{own_state, own_at, shape_there}
 use Rattle.history_laws.proofs.WindowLaw.{law_windows}
 use Rattle.history_laws.proofs.VerdictLaw.{law_verdicts}
 use Rattle.history_laws.proofs.VerdictKinds.{verdict_kind, unknown_kind}
-use Rattle.history_laws.proofs.QuietRecords.{IsNoWrite, WritesNothing}
+use Rattle.history_laws.proofs.QuietRecords.{IsNoWriteEvent, IsNoLoggedWrite}
 use Rattle.history_laws.proofs.Writes.{writes, append_nothing, nothing_after, same_first, take_map, all_before, all_from, all_parts, all_filter}
-use Rattle.history_laws.proofs.WriteRecords.{event_of, free}
+use Rattle.history_laws.proofs.WriteRecords.{event_of, release_write}
 use Rattle.history_laws.proofs.UnitStands.{UnitStands, IsOnZero, flag_from, flag_append, unit_stands}
 use Rattle.history_laws.proofs.LiveLists.{IsLive, IsLoggedOnZero}
 use Rattle.history_laws.proofs.PlanParts.{writes_in, writes_both, of_none, own_before, own_from, own_cut, own_here, before_longer, write_there, IsUpdate, plan_writes, NotDrained, before_reading, at_reading, AreNot, value_kept, StallNobody, flag_kept, tables_part}
@@ -114,7 +114,7 @@ module _ (old new : PolicyOf) (stalls tables : List RegPair) (h : History) (xs :
   pub record AtReading (b : ℕ) : Type 0 where
     pub number : ℕ
     pub is : b ≡ length u.live.boot + number
-    pub all : whole ≡ stalls ++ (tables ++ free ∷ [])
+    pub all : whole ≡ stalls ++ (tables ++ release_write ∷ [])
     pub before : done number ≡ stalls
 
   reading : (b : ℕ) → ReadsDrained h b → AtReading b
@@ -155,11 +155,11 @@ module _ (old new : PolicyOf) (stalls tables : List RegPair) (h : History) (xs :
   -- after the release caller 1 writes nothing
   rest_quiet : (m r : ℕ) → IsRelease h r → r < length u.live.boot + m → to_do m ≡ []
   rest_quiet m r rel after =
-      of_none (drop m u.live.others) (all_from (λ x. is_by 1 x ≡ true → WritesNothing x) u.live.others m
+      of_none (drop m u.live.others) (all_from (λ x. is_by 1 x ≡ true → IsNoLoggedWrite x) u.live.others m
       (λ j x l e. let here = u.log.here (length u.live.boot + j) x (among_others (image_of old).writes stalls tables xs u.live j ∙ e) in
       quiet (length u.live.boot + j) x.event here.0 (omega arith)))
     where
-      quiet : (k : ℕ) (e : Event) → event_at h k ≡ Some e → r < k → (caller_of e == 1) ≡ true → IsNoWrite e
+      quiet : (k : ℕ) (e : Event) → event_at h k ≡ Some e → r < k → (caller_of e == 1) ≡ true → IsNoWriteEvent e
       quiet k (RegWrite unit caller index value) q l t =
           let one : caller ≡ 1 = eqb-true caller 1 t in
           let w : IsUpdateWrite h k = record { unit = unit; index = index; value = value; event = q ∙ ap (λ c. Some (RegWrite unit c index value)) one } in
@@ -170,7 +170,7 @@ module _ (old new : PolicyOf) (stalls tables : List RegPair) (h : History) (xs :
   pub after_case : (m r : ℕ) (a : Access) → IsValidAccess a → IsRelease h r → r < length u.live.boot + m → kind_at m a ≡ policy_decision new a
   after_case m r a valid rel after =
       let at = reading rel.place rel.reading.drained in
-      let all : done m ≡ stalls ++ (tables ++ free ∷ []) = sym (append_nothing (done m)) ∙ (ap (λ ws. done m ++ ws) (sym (rest_quiet m r rel after)) ∙ (cut m ∙ at.all)) in
+      let all : done m ≡ stalls ++ (tables ++ release_write ∷ []) = sym (append_nothing (done m)) ∙ (ap (λ ws. done m ++ ws) (sym (rest_quiet m r rel after)) ∙ (cut m ∙ at.all)) in
       let same : SameValues ((image_of old).writes ++ done m) (image_of new).writes =
       λ i p q. ap (λ ws. value_of ((image_of old).writes ++ ws) i) all ∙ with_update old.shape (image_of old).writes (image_of new).writes stalls tables u.stalling u.rewrites i p q in
       decides_standing (unit (length u.live.boot + m)).registers new ((image_of old).writes ++ done m) u.good_new u.fits_new
@@ -184,8 +184,8 @@ module _ (old new : PolicyOf) (stalls tables : List RegPair) (h : History) (xs :
       let longer = before_longer at.number n u.live.others from in
       let part = writes_in longer.0 in
       let is : done n ≡ stalls ++ part = ap writes_in longer.1 ∙ (writes_both (own_before at.number u.live.others) longer.0 ∙ ap (λ ws. ws ++ part) at.before) in
-      let ends : part ++ to_do n ≡ tables ++ free ∷ [] =
-      same_first stalls (part ++ to_do n) (tables ++ free ∷ []) (sym (append_assoc stalls part (to_do n)) ∙ (ap (λ ws. ws ++ to_do n) (sym is) ∙ (cut n ∙ at.all))) in
+      let ends : part ++ to_do n ≡ tables ++ release_write ∷ [] =
+      same_first stalls (part ++ to_do n) (tables ++ release_write ∷ []) (sym (append_assoc stalls part (to_do n)) ∙ (ap (λ ws. ws ++ to_do n) (sym is) ∙ (cut n ∙ at.all))) in
       let rest = tables_part tables part (to_do n) ends more in
       (part, rest.0, is, rest.1)
 
@@ -220,13 +220,13 @@ module _ (old new : PolicyOf) (stalls tables : List RegPair) (h : History) (xs :
   some_write : (b : ℕ) → IsDrainedReading h b → ((k : ℕ) → IsUpdateWrite h k → ⊥) → ⊥
   some_write b read none =
       let at = reading b read.drained in
-      let nothing = of_none u.live.others (all_from (λ x. is_by 1 x ≡ true → WritesNothing x) u.live.others 0
+      let nothing = of_none u.live.others (all_from (λ x. is_by 1 x ≡ true → IsNoLoggedWrite x) u.live.others 0
       (λ j x l e. let here = u.log.here (length u.live.boot + j) x (among_others (image_of old).writes stalls tables xs u.live j ∙ e) in
       quiet (length u.live.boot + j) x.event here.0)) in
-      let n : free ∷ [] ≡ [] = nothing_after tables (free ∷ []) (nothing_after stalls (tables ++ free ∷ []) (sym at.all ∙ nothing)) in
+      let n : release_write ∷ [] ≡ [] = nothing_after tables (release_write ∷ []) (nothing_after stalls (tables ++ release_write ∷ []) (sym at.all ∙ nothing)) in
       absurd (cc)
     where
-      quiet : (k : ℕ) (e : Event) → event_at h k ≡ Some e → (caller_of e == 1) ≡ true → IsNoWrite e
+      quiet : (k : ℕ) (e : Event) → event_at h k ≡ Some e → (caller_of e == 1) ≡ true → IsNoWriteEvent e
       quiet k (RegWrite unit caller index value) q t =
           let one : caller ≡ 1 = eqb-true caller 1 t in
           absurd (none k (record { unit = unit; index = index; value = value; event = q ∙ ap (λ c. Some (RegWrite unit c index value)) one }))

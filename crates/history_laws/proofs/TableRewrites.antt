@@ -15,7 +15,7 @@ use Rattle.policy_compiler.specs.Commands.{write_command}
 use Rattle.policy_compiler.proofs.Standing.{value_from, value_of, IsRewrite}
 use Rattle.policy_compiler.proofs.Decisive.{IsImageWrite, image_each, image_shape, image_enables}
 use Rattle.update_planner.specs.Plans.{written_value, is_written, is_rewritten, rewrite, rewrites, plan_commands}
-use Rattle.history_laws.proofs.WriteRecords.{plan_of, stall, free}
+use Rattle.history_laws.proofs.WriteRecords.{plan_of, stall, release_write}
 use Rattle.history_laws.proofs.UpdateWrites.{Rewrites}
 
 -- ---- the plan's commands
@@ -26,12 +26,12 @@ new_value new i = unwrap_or (written_value new.writes i) 0
 abbrev pub tables_between : ImageOf → ImageOf → List RegPair
 tables_between old new = map (λ i. pair i (new_value new i)) (filter (is_rewritten old new) (range_with_len 0 (index_count new.shape)))
 
-same_commands : (new : ImageOf) (is : List ℕ) → map (rewrite new) is ++ Write 0 12 0 ∷ [] ≡ map write_command (map (λ i. pair i (new_value new i)) is ++ free ∷ [])
+same_commands : (new : ImageOf) (is : List ℕ) → map (rewrite new) is ++ Write 0 12 0 ∷ [] ≡ map write_command (map (λ i. pair i (new_value new i)) is ++ release_write ∷ [])
 same_commands new [] = refl
 same_commands new (i ∷ is) = ap (λ cs. rewrite new i ∷ cs) (same_commands new is)
 
 -- the commands after the reads
-pub rewrites_are : (old new : ImageOf) → rewrites old new ++ Write 0 12 0 ∷ [] ≡ map write_command (tables_between old new ++ free ∷ [])
+pub rewrites_are : (old new : ImageOf) → rewrites old new ++ Write 0 12 0 ∷ [] ≡ map write_command (tables_between old new ++ release_write ∷ [])
 unfolding rewrites
 rewrites_are old new = same_commands new (filter (is_rewritten old new) (range_with_len 0 (index_count new.shape)))
 

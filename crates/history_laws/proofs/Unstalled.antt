@@ -13,7 +13,7 @@ use Rattle.event_words.specs.declared.reply.Reply.TheVariants as replies
 use Rattle.event_words.specs.declared.reply.Verdict.{Verdict}
 use Rattle.event_words.specs.declared.record.LoggedEvent.{LoggedEvent}
 use Rattle.event_words.specs.Events.{caller_of}
-use Rattle.event_words.specs.Sections.{SectionOf, WritesNothing}
+use Rattle.event_words.specs.Sections.{SectionOf, HasNoRegisterWrites}
 use Rattle.event_words.specs.Records.{events_by, is_by}
 use Rattle.unit_core.specs.declared.Submission.{Submission}
 use Rattle.unit_core.specs.Submissions.{is_item}
@@ -24,9 +24,9 @@ use Rattle.unit_core.specs.Submitted.{taken_at}
 use Rattle.history_laws.specs.Tickets.{IsTaken, IsOwnJudgement}
 use Rattle.history_laws.specs.Verdicts.{decided}
 use Rattle.history_laws.specs.Unwritten.{units_after_boot}
-use Rattle.unit_core.proofs.Runs.{own_state, own_next, own_at, as_it_is, reply_is, reply_of, is_submission, submit_of}
+use Rattle.unit_core.proofs.Runs.{own_state, own_next, own_at, as_it_is, reply_is, reply_of, submission_taken, submit_of}
 use Rattle.unit_core.proofs.Items.{submit_cases, judge_cases, items_step, all_found, released_cases}
-use Rattle.history_laws.proofs.QuietRecords.{IsNoWrite}
+use Rattle.history_laws.proofs.QuietRecords.{IsNoWriteEvent}
 use Rattle.history_laws.proofs.Writes.{all_filter}
 use Rattle.event_words.proofs.Pairs.{AllPairs, AreNeighbours, pairs_filtered}
 use Rattle.history_laws.proofs.TicketReplies.{judged_open}
@@ -43,20 +43,20 @@ abbrev IsFree : Submission → Type 0
 IsFree item = item.queued ≡ false
 
 pub record IsUnstalled (x : UnitState) : Type 0 where
-  pub free : (s : ℕ) → is_stalled x s ≡ false
+  pub no_flag : (s : ℕ) → is_stalled x s ≡ false
   pub items : AllByRecursion IsFree x.submissions
 
-flags_step : (k : ℕ) (x : UnitState) (e : Event) → IsNoWrite e → (unit_step k x e).0.flags ≡ x.flags
+flags_step : (k : ℕ) (x : UnitState) (e : Event) → IsNoWriteEvent e → (unit_step k x e).0.flags ≡ x.flags
 flags_step k x (RegWrite unit caller index value) q = absurd q
 flags_step k x (RegRead unit caller index) q = refl
 flags_step k x (Submit unit caller a) q = submit_cases (λ r. r.0.flags ≡ x.flags) k x caller a (λ e. refl) (λ e f. refl) (λ d. refl) refl
 flags_step k x (Judge unit caller place) q = judge_cases (λ r. r.0.flags ≡ x.flags) x place caller (λ e. refl) (λ item e f. refl) (λ item e f v. refl) (λ item e f d v. refl)
 flags_step k x _ q = refl
 
-unstalled_step : (k : ℕ) (x : UnitState) (e : Event) → IsNoWrite e → IsUnstalled x → IsUnstalled (unit_step k x e).0
+unstalled_step : (k : ℕ) (x : UnitState) (e : Event) → IsNoWriteEvent e → IsUnstalled x → IsUnstalled (unit_step k x e).0
 unstalled_step k x e q c = record {
-  free = λ s. ap (λ fs. flag_of fs s) (flags_step k x e q) ∙ c.free s;
-  items = items_step IsFree IsFree k x e (λ item f. f) (λ item f. released_cases IsFree _ item (λ t. f) (λ t. refl)) (λ unit caller a queued t stalled taken. sym stalled ∙ c.free a.rrid) c.items;
+  no_flag = λ s. ap (λ fs. flag_of fs s) (flags_step k x e q) ∙ c.no_flag s;
+  items = items_step IsFree IsFree k x e (λ item f. f) (λ item f. released_cases IsFree _ item (λ t. f) (λ t. refl)) (λ unit caller a queued t stalled taken. sym stalled ∙ c.no_flag a.rrid) c.items;
 }
 
 unstalled_later : (h : History) (u : ℕ) (shape : Shape) (n m : ℕ) → AreNoWritesFrom h n → IsUnstalled (own_state h u shape n) → IsUnstalled (own_state h u shape (n + m))
@@ -86,7 +86,7 @@ not_held x place caller free =
 -- The lanes write nothing, and after the boot section's events nobody is stalled.
 pub record IsUnwritten (shapes : List Shape) (boot : SectionOf) (lanes : List SectionOf) (words : List ℕ) : Type 0 where
   pub legal : IsLegalHistory shapes boot lanes words
-  pub quiet : AllByRecursion WritesNothing lanes
+  pub quiet : AllByRecursion HasNoRegisterWrites lanes
   pub unstalled : (u : ℕ) (x : UnitState) → slice_get (units_after_boot shapes words) u ≡ Some x → IsUnstalled x
 
 module _ (shapes : List Shape) (boot : SectionOf) (lanes : List SectionOf) (words : List ℕ) (g : IsUnwritten shapes boot lanes words) where
@@ -113,7 +113,7 @@ module _ (shapes : List Shape) (boot : SectionOf) (lanes : List SectionOf) (word
   passed_at u shape c k a q l event =
       let x = own_state h u shape k in
       let calm = unstalled_at u shape q k (after_boot k (Submit u c a) event l) in
-      reply_of h k (Submit u c a) u x refl (as_it_is h k (Submit u c a) refl event) (own_at h u k shape q) ∙ ap (λ r. Some r) (passes k x c a (calm.free a.rrid))
+      reply_of h k (Submit u c a) u x refl (as_it_is h k (Submit u c a) refl event) (own_at h u k shape q) ∙ ap (λ r. Some r) (passes k x c a (calm.no_flag a.rrid))
 
   -- A submission of a caller, and its next event, a judgement of it: this is the reply.
   abbrev pub IsAnswered : ℕ → LoggedEvent → LoggedEvent → Type 0
@@ -130,7 +130,7 @@ module _ (shapes : List Shape) (boot : SectionOf) (lanes : List SectionOf) (word
       let submitted : event_at h i ≡ Some (Submit u c a) = first.event ∙ ap (λ e. Some e) xe in
       let taken_first = as_it_is h i (Submit u c a) refl submitted in
       let judged : event_at h k ≡ Some (Judge u c i) = second.event ∙ ap (λ e. Some e) (ye ∙ ap (Judge u c) first.place) in
-      let taken : IsTaken h u c i a = record { event = is_submission h i u c a taken_first; reply = inl (passed_at u shape c i a q some submitted) } in
+      let taken : IsTaken h u c i a = record { event = submission_taken h i u c a taken_first; reply = inl (passed_at u shape c i a q some submitted) } in
       let own : IsOwnJudgement h u c i k = record { event = judged; later = near.0 } in
       let replied = judged_open h u c i k a y.reply taken own
       (λ j l v.

@@ -21,10 +21,10 @@ use Rattle.event_words.specs.Guards.{reg}
 use Rattle.event_words.specs.Decisions.{decision}
 use Rattle.event_words.specs.Denials.{recorded}
 use Rattle.event_words.specs.Events.{caller_of}
-use Rattle.event_words.specs.Runs.{bearer, IsEventWord}
-use Rattle.event_words.specs.Sections.{SectionOf, WritesNothing}
+use Rattle.event_words.specs.Runs.{caller_of_word, IsEventWord}
+use Rattle.event_words.specs.Sections.{SectionOf, HasNoRegisterWrites}
 use Rattle.event_words.specs.Records.{is_by}
-use Rattle.event_words.proofs.Runs.{bearer-word_of}
+use Rattle.event_words.proofs.Runs.{caller_of_word-word_of}
 use Rattle.unit_core.specs.Units.{UnitState, unit_step}
 use Rattle.unit_core.specs.Histories.{History, IsBoot, IsOfLane, BootComesFirst, IsLegalHistory, history_of, units_at, units_after, event_at, logged_in}
 use Rattle.unit_core.specs.Submitted.{taken_at}
@@ -36,7 +36,7 @@ use Rattle.unit_core.proofs.Registers.{recorded_cases, recorded_other}
 use Rattle.history_laws.proofs.SameTables.{DifferInRecord, same_decision}
 use Rattle.history_laws.proofs.VerdictLaw.{law_verdicts}
 use Rattle.history_laws.proofs.WordHistories.{length_events, word_at_place, event_at_words, units_at_words, reply_at_words, has_entry}
-use Rattle.history_laws.proofs.QuietRecords.{IsNoWrite}
+use Rattle.history_laws.proofs.QuietRecords.{IsNoWriteEvent}
 use Rattle.history_laws.proofs.QuietRecords as quiet
 use Rattle.history_laws.proofs.Writes.{all_passing, all_get, get_append, get_low}
 use Rattle.history_laws.proofs.LiveLists.{keeps_all, keeps_none, lanes_quiet}
@@ -57,7 +57,7 @@ recorded_differ r a d = record {
       recorded_other r a d i (apart 25 (omega arith) (omega arith)) (apart 26 (omega arith) (omega arith)) (apart 27 (omega arith) (omega arith)) (apart 28 (omega arith) (omega arith));
 }
 
-no_write_step : (k : ℕ) (x : UnitState) (e : Event) → IsNoWrite e → DifferInRecord (unit_step k x e).0.registers x.registers
+no_write_step : (k : ℕ) (x : UnitState) (e : Event) → IsNoWriteEvent e → DifferInRecord (unit_step k x e).0.registers x.registers
 no_write_step k x (RegWrite unit caller index value) q = absurd q
 no_write_step k x (RegRead unit caller index) q = differ_not x.registers
 no_write_step k x (Submit unit caller a) q =
@@ -69,10 +69,10 @@ no_write_step k x _ q = differ_not x.registers
 
 -- so for all events from a place on
 abbrev pub AreNoWritesFrom : History → ℕ → Type 0
-AreNoWritesFrom h n = (k : ℕ) (e : Event) → n ≤ k → event_at h k ≡ Some e → IsNoWrite e
+AreNoWritesFrom h n = (k : ℕ) (e : Event) → n ≤ k → event_at h k ≡ Some e → IsNoWriteEvent e
 
 -- What a unit takes there is no write either.
-pub no_write_taken : (h : History) (n k : ℕ) (e : Event) → AreNoWritesFrom h n → n ≤ k → taken_at h k ≡ Some e → IsNoWrite e
+pub no_write_taken : (h : History) (n k : ℕ) (e : Event) → AreNoWritesFrom h n → n ≤ k → taken_at h k ≡ Some e → IsNoWriteEvent e
 no_write_taken h n k (RegWrite unit caller index value) q l at = q k (RegWrite unit caller index value) l (event_taken h k (RegWrite unit caller index value) refl at)
 no_write_taken h n k _ q l at = tt
 
@@ -111,11 +111,11 @@ boot_words lanes words b =
   where
     boots : (ws : List ℕ) → AllByRecursion IsBoot ws → AllByRecursion (λ w. is_boot w ≡ true) ws
     boots [] h = tt
-    boots (w ∷ ws) h = (eq-eqb (bearer w) 0 h.0, boots ws h.1)
+    boots (w ∷ ws) h = (eq-eqb (caller_of_word w) 0 h.0, boots ws h.1)
 
     others : (ws : List ℕ) → AllByRecursion (IsOfLane lanes) ws → AllByRecursion (λ w. is_boot w ≡ false) ws
     others [] h = tt
-    others (w ∷ ws) h = (ne_eqb (bearer w) 0 (λ e. let l = h.0.0 in absurd (omega arith)), others ws h.1)
+    others (w ∷ ws) h = (ne_eqb (caller_of_word w) 0 (λ e. let l = h.0.0 in absurd (omega arith)), others ws h.1)
 
     append_none : (ws : List ℕ) → ws ++ [] ≡ ws
     append_none [] = refl
@@ -133,22 +133,22 @@ units_booted shapes lanes words all b =
 record HasBearer (words : List ℕ) (k : ℕ) (e : Event) : Type 0 where
   pub word : ℕ
   pub at : slice_get words k ≡ Some word
-  pub caller : bearer word ≡ caller_of e
+  pub caller : caller_of_word word ≡ caller_of e
 
-bearer_at : (shapes : List Shape) (words : List ℕ) → AllByRecursion IsEventWord words → (k : ℕ) (e : Event) → event_at (history_of shapes words) k ≡ Some e → HasBearer words k e
-bearer_at shapes words all k e q =
+caller_at : (shapes : List Shape) (words : List ℕ) → AllByRecursion IsEventWord words → (k : ℕ) (e : Event) → event_at (history_of shapes words) k ≡ Some e → HasBearer words k e
+caller_at shapes words all k e q =
     let l : k < length words = subst (λ n. k < n) (length_events words all) (slice_get_within _ k e q) in
     let w = get_or words k 0 in
     let at : slice_get words k ≡ Some w = slice_get-get_or words k 0 l in
     let has = word_at_place words all k w at in
     let same : Some has.event ≡ Some e = sym (event_at_words shapes words all k w has.event at has.back) ∙ q in
     let is : has.event ≡ e = cc in
-    record { word = w; at = at; caller = ap bearer has.is ∙ bearer-word_of has.event has.valid ∙ ap caller_of is }
+    record { word = w; at = at; caller = ap caller_of_word has.is ∙ caller_of_word-word_of has.event has.valid ∙ ap caller_of is }
 
 pub boot_before : (shapes : List Shape) (lanes : ℕ) (words : List ℕ) → AllByRecursion IsEventWord words → (b : BootComesFirst lanes words) (k : ℕ) (e : Event) → event_at (history_of shapes words) k ≡ Some e → 1 ≤ caller_of e → length b.boot ≤ k
 boot_before shapes lanes words all b k e q l = ⊎_elim
     (λ (low : k < length b.boot).
-    let h = bearer_at shapes words all k e q in
+    let h = caller_at shapes words all k e q in
     let at : slice_get b.boot k ≡ Some h.word = sym (get_low b.boot b.others k low) ∙ ap (λ ws. slice_get ws k) (sym b.is) ∙ h.at in
     let zero_is = all_get IsBoot b.boot k h.word b.of_boot at in
     let c = h.caller in
@@ -158,7 +158,7 @@ boot_before shapes lanes words all b k e q l = ⊎_elim
 
 pub lane_after_boot : (shapes : List Shape) (lanes : ℕ) (words : List ℕ) → AllByRecursion IsEventWord words → (b : BootComesFirst lanes words) (k : ℕ) (e : Event) → event_at (history_of shapes words) k ≡ Some e → length b.boot ≤ k → (1 ≤ caller_of e) × (caller_of e ≤ lanes)
 lane_after_boot shapes lanes words all b k e q l =
-    let h = bearer_at shapes words all k e q in
+    let h = caller_at shapes words all k e q in
     let z : k ≡ length b.boot + (k - length b.boot) = omega arith in
     let at : slice_get b.others (k - length b.boot) ≡ Some h.word =
     sym (get_append b.boot b.others (k - length b.boot)) ∙ ap (slice_get (b.boot ++ b.others)) (sym z) ∙ ap (λ ws. slice_get ws k) (sym b.is) ∙ h.at in
@@ -174,16 +174,16 @@ caller_within shapes lanes words all b k e q = ⊎_elim
 -- ---- lanes that write nothing
 
 -- No event after the boot section's writes a register.
-pub no_writes : (shapes : List Shape) (boot : SectionOf) (lanes : List SectionOf) (words : List ℕ) (legal : IsLegalHistory shapes boot lanes words) → AllByRecursion WritesNothing lanes
+pub no_writes : (shapes : List Shape) (boot : SectionOf) (lanes : List SectionOf) (words : List ℕ) (legal : IsLegalHistory shapes boot lanes words) → AllByRecursion HasNoRegisterWrites lanes
     → AreNoWritesFrom (history_of shapes words) (length legal.order.boot)
 no_writes shapes boot lanes words legal q k e l at =
     let all = legal.events in
     let c = lane_after_boot shapes (length lanes) words all legal.order k e at l in
-    let h = bearer_at shapes words all k e at in
+    let h = caller_at shapes words all k e at in
     let entry = has_entry shapes words all k e _ at (reply_at_words shapes words all k h.word h.at) in
     let own = lanes_quiet (logged_in shapes words) 1 lanes legal.lane_records q (caller_of e) c.0 (let u = c.1 in omega arith) in
-    let each = all_passing quiet.WritesNothing (is_by (caller_of e)) (logged_in shapes words) own in
-    all_get (λ (x : LoggedEvent). is_by (caller_of e) x ≡ true → quiet.WritesNothing x) (logged_in shapes words) k _ each entry (eq-eqb (caller_of e) (caller_of e) refl)
+    let each = all_passing quiet.IsNoLoggedWrite (is_by (caller_of e)) (logged_in shapes words) own in
+    all_get (λ (x : LoggedEvent). is_by (caller_of e) x ≡ true → quiet.IsNoLoggedWrite x) (logged_in shapes words) k _ each entry (eq-eqb (caller_of e) (caller_of e) refl)
 
 -- ---- the law
 

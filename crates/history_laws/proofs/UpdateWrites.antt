@@ -9,7 +9,7 @@ use Rattle.policy_compiler.specs.Images.{image_of}
 use Rattle.policy_compiler.proofs.Standing.{value_from, value_of, value_append, value_other, IsRewrite, IsStall, IsTame, AreNext}
 use Rattle.policy_compiler.proofs.Decisive.{SameValues, IsImageWrite, image_each}
 use Rattle.history_laws.proofs.Writes.{append_nothing, all_both}
-use Rattle.history_laws.proofs.WriteRecords.{free}
+use Rattle.history_laws.proofs.WriteRecords.{release_write}
 use Rattle.history_laws.proofs.PlanParts.{IsUpdate, AreNot, value_kept, StallNobody}
 
 -- Writes that bring what the old ones left to what the new ones leave.
@@ -63,8 +63,8 @@ update_not_enable h stalls tables ws each all update = by update
     by (inl e) = subst (AreNot 2) (sym e) first
     by (inr e) =
         subst (AreNot 2) (sym e)
-        (all_both (λ (w : RegPair). w.index ≡ 2 → ⊥) stalls (tables ++ free ∷ []) first
-        (all_both (λ (w : RegPair). w.index ≡ 2 → ⊥) tables (free ∷ []) (rewrites_not h tables 2 (omega arith) (λ e. absurd (omega arith)) all) (λ e. absurd (omega arith), tt)))
+        (all_both (λ (w : RegPair). w.index ≡ 2 → ⊥) stalls (tables ++ release_write ∷ []) first
+        (all_both (λ (w : RegPair). w.index ≡ 2 → ⊥) tables (release_write ∷ []) (rewrites_not h tables 2 (omega arith) (λ e. absurd (omega arith)) all) (λ e. absurd (omega arith), tt)))
 
 -- ---- what may come next
 
@@ -92,8 +92,8 @@ pub update_tame : (h : Shape) (stalls tables ws : List RegPair) → AllByRecursi
 update_tame h stalls tables ws each all (inl e) = subst (AllByRecursion (IsTame h)) (sym e) (stalls_tame h stalls each)
 update_tame h stalls tables ws each all (inr e) =
     subst (AllByRecursion (IsTame h)) (sym e)
-    (all_both (IsTame h) stalls (tables ++ free ∷ []) (stalls_tame h stalls each)
-    (all_both (IsTame h) tables (free ∷ []) (rewrites_tame h tables all) (inr (inl (inl (refl, omega arith))), tt)))
+    (all_both (IsTame h) stalls (tables ++ release_write ∷ []) (stalls_tame h stalls each)
+    (all_both (IsTame h) tables (release_write ∷ []) (rewrites_tame h tables all) (inr (inl (inl (refl, omega arith))), tt)))
 
 -- ---- the values
 
@@ -108,9 +108,9 @@ past_stalls old stalls ws each i p q =
     ∙ (value_append 0 (old ++ stalls) ws i
     ∙ (ap (λ n. value_from n ws i) (with_stalls old stalls each i p q) ∙ sym (value_append 0 old ws i)))
 
-pub with_update : (h : Shape) (old new stalls tables : List RegPair) → AllByRecursion IsStall stalls → Rewrites h old new tables → SameValues (old ++ (stalls ++ (tables ++ free ∷ []))) new
+pub with_update : (h : Shape) (old new stalls tables : List RegPair) → AllByRecursion IsStall stalls → Rewrites h old new tables → SameValues (old ++ (stalls ++ (tables ++ release_write ∷ []))) new
 with_update h old new stalls tables each r i p q =
-    past_stalls old stalls (tables ++ free ∷ []) each i p q
-    ∙ (ap (λ xs. value_of xs i) (sym (append_assoc old tables (free ∷ [])))
-    ∙ (value_other (old ++ tables) free i (λ e. p (sym e))
+    past_stalls old stalls (tables ++ release_write ∷ []) each i p q
+    ∙ (ap (λ xs. value_of xs i) (sym (append_assoc old tables (release_write ∷ [])))
+    ∙ (value_other (old ++ tables) release_write i (λ e. p (sym e))
     ∙ (value_append 0 old tables i ∙ r.values i)))

@@ -11,7 +11,7 @@ use Rattle.event_words.specs.declared.reply.Reply.TheVariants as replies
 use Rattle.event_words.specs.Registers.{word_at, has_bit, count_of_bool}
 use Rattle.event_words.specs.Stalls.{flag_of}
 use Rattle.unit_core.specs.declared.Submission.{Submission}
-use Rattle.unit_core.specs.Submissions.{is_item, is_waiting}
+use Rattle.unit_core.specs.Submissions.{is_item, is_draining}
 use Rattle.event_words.specs.Events.{unit_of}
 use Rattle.unit_core.specs.Units.{UnitState, unit_step, is_stalled, is_busy, read_value}
 use Rattle.unit_core.specs.Histories.{History, state_at, reply_at}
@@ -19,7 +19,7 @@ use Rattle.unit_core.specs.Submitted.{taken_at}
 use Rattle.unit_core.specs.Windows.{is_flagged, IsInDrainedWindow}
 use Rattle.history_laws.specs.Tickets.{IsTaken}
 use Rattle.history_laws.specs.Windows.{LawWindows}
-use Rattle.unit_core.proofs.Runs.{own, own_next, own_state, own_induction, own_at, as_it_is, reply_is, reply_of, is_submission, submit_of}
+use Rattle.unit_core.proofs.Runs.{own, own_next, own_state, own_induction, own_at, as_it_is, reply_is, reply_of, submission_taken, submit_of}
 use Rattle.unit_core.proofs.Registers.{written_even, recorded_even, reset_even}
 use Rattle.unit_core.proofs.Items.{submit_cases, judge_cases, items_step, all_found, judged, released_cases}
 
@@ -31,7 +31,7 @@ pub record IsFrom (h : History) (u : ℕ) (item : Submission) : Type 0 where
 new_from : (h : History) (u k : ℕ) (x : UnitState) (e : Event) (unit caller : ℕ) (a : Access) → taken_at h k ≡ Some e → unit_of e ≡ Some u → e ≡ Submit unit caller a → reply_at h k ≡ Some (unit_step k x e).1
     → ((unit_step k x e).1 ≡ replies.Passed) ⊎ ((unit_step k x e).1 ≡ replies.Queued) → IsTaken h u caller k a
 new_from h u k x e unit caller a q t s r taken = record {
-  event = is_submission h k u caller a (q ∙ ap (λ f. Some f) s ∙ (let m : unit_of (Submit unit caller a) ≡ Some u = ap unit_of (sym s) ∙ t in let n : unit ≡ u = cc in ap (λ n. Some (Submit n caller a)) n));
+  event = submission_taken h k u caller a (q ∙ ap (λ f. Some f) s ∙ (let m : unit_of (Submit unit caller a) ≡ Some u = ap unit_of (sym s) ∙ t in let n : unit ≡ u = cc in ap (λ n. Some (Submit n caller a)) n));
   reply = ⊎_elim (λ p. inl (r ∙ ap (λ y. Some y) p)) (λ p. inr (r ∙ ap (λ y. Some y) p)) taken;
 }
 
@@ -75,10 +75,10 @@ odd_one w false e f = refl
 abbrev IsHeldOf : ℕ → Submission → Type 0
 IsHeldOf s item = item.access.rrid ≡ s → item.queued ≡ true
 
-idle_held : (flags : List Bool) (s : ℕ) (items : List Submission) → flag_of flags s ≡ true → list_any (is_waiting flags) items ≡ false → AllByRecursion (IsHeldOf s) items
+idle_held : (flags : List Bool) (s : ℕ) (items : List Submission) → flag_of flags s ≡ true → list_any (is_draining flags) items ≡ false → AllByRecursion (IsHeldOf s) items
 idle_held flags s [] f e = tt
 idle_held flags s (item ∷ items) f e =
-    let parts = or_parts (is_waiting flags item) (list_any (is_waiting flags) items) e in
+    let parts = or_parts (is_draining flags item) (list_any (is_draining flags) items) e in
     (λ q. waits item.queued (flag_of flags item.access.rrid) parts.0 (subst (λ r. flag_of flags r ≡ true) (sym q) f), idle_held flags s items f parts.1)
   where
     waits : (queued flag : Bool) → (not queued && flag) ≡ false → flag ≡ true → queued ≡ true

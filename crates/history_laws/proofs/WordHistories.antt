@@ -6,14 +6,14 @@ use Rattle.event_words.specs.declared.shape.Shape.{Shape}
 use Rattle.event_words.specs.declared.event.Event.{Event}
 use Rattle.event_words.specs.declared.reply.Reply.{Reply}
 use Rattle.event_words.specs.declared.record.LoggedEvent.{LoggedEvent}
-use Rattle.event_words.specs.Word.{word_of, event_at as event_of_word}
+use Rattle.event_words.specs.Word.{word_of, event_of_word}
 use Rattle.event_words.specs.Valid.{IsValidEvent}
 use Rattle.event_words.specs.Runs.{IsEventWord, run, run_from, logged_first, logged_from}
 use Rattle.unit_core.specs.Units.{FabricState, fabric_at_reset, event_step, decoded_step}
 use Rattle.unit_core.specs.Fabrics.{state_after_word, reply_to_word}
 use Rattle.unit_core.specs.Histories.{History, after_event, units_at, aims_after_event, aims_at, event_at, reply_at, with_event, events_of_words, history_of, logged_in}
 use Rattle.event_words.proofs.EventWords.{HasEvent, word_event}
-use Rattle.event_words.proofs.Runs.{event_at-word_of}
+use Rattle.event_words.proofs.Runs.{event_of_word-word_of}
 
 -- ---- events
 
@@ -42,7 +42,7 @@ pub event_at_words : (shapes : List Shape) (words : List ℕ) → AllByRecursion
 event_at_words shapes words all k w e q r = events_at_words words all k ∙ ap (option_and_then event_of_word) q ∙ r
 
 pub event_at_word_of : (shapes : List Shape) (words : List ℕ) → AllByRecursion IsEventWord words → (k : ℕ) (e : Event) → IsValidEvent e → slice_get words k ≡ Some (word_of e) → event_at (history_of shapes words) k ≡ Some e
-event_at_word_of shapes words all k e valid q = event_at_words shapes words all k (word_of e) e q (event_at-word_of e valid)
+event_at_word_of shapes words all k e valid q = event_at_words shapes words all k (word_of e) e q (event_of_word-word_of e valid)
 
 -- ---- the fabric
 

@@ -10,7 +10,7 @@ use Rattle.event_words.specs.declared.record.SectionEnd.TheVariants.{Stopped}
 use Rattle.event_words.specs.declared.section.Command.{Command}
 use Rattle.event_words.specs.declared.section.Command.TheVariants.{Until}
 use Rattle.event_words.specs.Events.{same_event}
-use Rattle.event_words.specs.Records.{OpenSlot, first_as, polls, hits, one_piece, until_piece, nothing_left, after_piece, end_from}
+use Rattle.event_words.specs.Records.{OpenSlot, take_event, polls, hits, one_piece, until_piece, nothing_left, after_piece, end_of_commands}
 use Rattle.policy_compiler.specs.declared.image.RegPair.{RegPair}
 use Rattle.policy_compiler.specs.Images.{pair}
 use Rattle.policy_compiler.specs.Commands.{write_command}
@@ -55,7 +55,7 @@ record StartsWith (e : Event) (go : List LoggedEvent → Option SectionEnd) (xs 
   pub goes : go rest ≡ Some end
 
 one_first : (e : Event) (go : List (Option OpenSlot) → List LoggedEvent → Option SectionEnd) (slots : List (Option OpenSlot)) (xs : List LoggedEvent) (end : SectionEnd)
-    → after_piece go (one_piece slots (first_as e xs)) ≡ Some end → StartsWith e (go slots) xs end
+    → after_piece go (one_piece slots (take_event e xs)) ≡ Some end → StartsWith e (go slots) xs end
 one_first e go slots [] end h = none_some end h
 one_first e go slots (x ∷ xs) end h = by (same_event e x.event) refl h
   where
@@ -71,11 +71,11 @@ write_by c w = events.RegWrite 0 c w.index w.value
 abbrev pub event_of : LoggedEvent → Event
 event_of x = x.event
 
-pub writes_record : (c : ℕ) (ws : List RegPair) (slots : List (Option OpenSlot)) (xs : List LoggedEvent) (end : SectionEnd) → end_from c (map write_command ws) slots xs ≡ Some end → map event_of xs ≡ map (write_by c) ws
+pub writes_record : (c : ℕ) (ws : List RegPair) (slots : List (Option OpenSlot)) (xs : List LoggedEvent) (end : SectionEnd) → end_of_commands c (map write_command ws) slots xs ≡ Some end → map event_of xs ≡ map (write_by c) ws
 writes_record c [] slots [] end h = refl
 writes_record c [] slots (x ∷ xs) end h = none_some end h
 writes_record c (w ∷ ws) slots xs end h =
-    let s = one_first (write_by c w) (end_from c (map write_command ws)) slots xs end h in
+    let s = one_first (write_by c w) (end_of_commands c (map write_command ws)) slots xs end h in
     let head = same_write 0 c w.index w.value s.first.event s.event in
     let tail = writes_record c ws slots s.rest end s.goes in
     ap (map event_of) s.is ∙ (ap (λ e. e ∷ map event_of s.rest) head ∙ ap (λ es. write_by c w ∷ es) tail)
@@ -88,10 +88,10 @@ record StartsWithAll (c : ℕ) (ws : List RegPair) (go : List LoggedEvent → Op
   pub events : map event_of first ≡ map (write_by c) ws
   pub goes : go rest ≡ Some end
 
-writes_first : (c : ℕ) (ws : List RegPair) (cs : List Command) (slots : List (Option OpenSlot)) (xs : List LoggedEvent) (end : SectionEnd) → end_from c (map write_command ws ++ cs) slots xs ≡ Some end → StartsWithAll c ws (end_from c cs slots) xs end
+writes_first : (c : ℕ) (ws : List RegPair) (cs : List Command) (slots : List (Option OpenSlot)) (xs : List LoggedEvent) (end : SectionEnd) → end_of_commands c (map write_command ws ++ cs) slots xs ≡ Some end → StartsWithAll c ws (end_of_commands c cs slots) xs end
 writes_first c [] cs slots xs end h = record { first = []; rest = xs; is = refl; events = refl; goes = h }
 writes_first c (w ∷ ws) cs slots xs end h =
-    let s = one_first (write_by c w) (end_from c (map write_command ws ++ cs)) slots xs end h in
+    let s = one_first (write_by c w) (end_of_commands c (map write_command ws ++ cs)) slots xs end h in
     let head = same_write 0 c w.index w.value s.first.event s.event in
     let tail = writes_first c ws cs slots s.rest end s.goes in
     record {
@@ -161,16 +161,16 @@ polled (suc n) go slots (x ∷ xs) end h = by (same_event (events.RegRead 0 1 12
 abbrev pub stall : RegPair
 stall = pair 12 1
 
-abbrev pub free : RegPair
-free = pair 12 0
+abbrev pub release_write : RegPair
+release_write = pair 12 0
 
 -- requesters stall, the drain is polled for, the tables are written, and the stall ends
 abbrev pub plan_of : List RegPair → List RegPair → ℕ → List Command
-plan_of stalls tables polls = map write_command stalls ++ (Until 0 12 1 0 polls ∷ map write_command (tables ++ free ∷ []))
+plan_of stalls tables polls = map write_command stalls ++ (Until 0 12 1 0 polls ∷ map write_command (tables ++ release_write ∷ []))
 
 -- what follows the reads: nothing where all of them miss, and the other writes where one hits
 abbrev pub PlanEnds : List RegPair → List LoggedEvent → List LoggedEvent → Type 0
-PlanEnds tables reads rest = (AllByRecursion Misses reads × (rest ≡ [])) ⊎ (HasHit reads × (map event_of rest ≡ map (write_by 1) (tables ++ free ∷ [])))
+PlanEnds tables reads rest = (AllByRecursion Misses reads × (rest ≡ [])) ⊎ (HasHit reads × (map event_of rest ≡ map (write_by 1) (tables ++ release_write ∷ [])))
 
 -- The record of a plan: the stalls, the reads, and what follows them.
 pub record IsPlanRecord (stalls tables : List RegPair) (xs : List LoggedEvent) : Type 0 where
@@ -182,10 +182,10 @@ pub record IsPlanRecord (stalls tables : List RegPair) (xs : List LoggedEvent) :
   pub events : AllByRecursion IsDrainRead reads
   pub ends : PlanEnds tables reads rest
 
-pub plan_record : (stalls tables : List RegPair) (n : ℕ) (slots : List (Option OpenSlot)) (xs : List LoggedEvent) (end : SectionEnd) → end_from 1 (plan_of stalls tables n) slots xs ≡ Some end → IsPlanRecord stalls tables xs
+pub plan_record : (stalls tables : List RegPair) (n : ℕ) (slots : List (Option OpenSlot)) (xs : List LoggedEvent) (end : SectionEnd) → end_of_commands 1 (plan_of stalls tables n) slots xs ≡ Some end → IsPlanRecord stalls tables xs
 plan_record stalls tables n slots xs end h =
-    let s = writes_first 1 stalls (Until 0 12 1 0 n ∷ map write_command (tables ++ free ∷ [])) slots xs end h in
-    let p = polled n (end_from 1 (map write_command (tables ++ free ∷ []))) slots s.rest end s.goes in
+    let s = writes_first 1 stalls (Until 0 12 1 0 n ∷ map write_command (tables ++ release_write ∷ [])) slots xs end h in
+    let p = polled n (end_of_commands 1 (map write_command (tables ++ release_write ∷ []))) slots s.rest end s.goes in
     record {
       first = s.first;
       reads = p.reads;
@@ -196,6 +196,6 @@ plan_record stalls tables n slots xs end h =
       ends = ending p.reads p.rest p.ends;
     }
   where
-    ending : (reads rest : List LoggedEvent) → (AllByRecursion Misses reads × (rest ≡ [])) ⊎ (HasHit reads × (end_from 1 (map write_command (tables ++ free ∷ [])) slots rest ≡ Some end)) → PlanEnds tables reads rest
+    ending : (reads rest : List LoggedEvent) → (AllByRecursion Misses reads × (rest ≡ [])) ⊎ (HasHit reads × (end_of_commands 1 (map write_command (tables ++ release_write ∷ [])) slots rest ≡ Some end)) → PlanEnds tables reads rest
     ending reads rest (inl m) = inl m
-    ending reads rest (inr m) = inr (m.0, writes_record 1 (tables ++ free ∷ []) slots rest end m.1)
+    ending reads rest (inr m) = inr (m.0, writes_record 1 (tables ++ release_write ∷ []) slots rest end m.1)

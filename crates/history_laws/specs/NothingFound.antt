@@ -3,7 +3,7 @@ use Rattle.std.specs.Prelude.{◌≡◌, ℕ, ◌+◌, ◌^◌, ◌<◌, ◌≤�
 use Rattle.event_words.specs.declared.event.Event.{Event}
 use Rattle.event_words.specs.declared.event.Event.TheVariants.{Judge, Wide}
 use Rattle.event_words.specs.declared.reply.Reply.TheVariants.{NoSuch}
-use Rattle.event_words.specs.Word.{event_at}
+use Rattle.event_words.specs.Word.{event_of_word}
 use Rattle.event_words.specs.Events.{unit_of}
 use Rattle.unit_core.specs.declared.Submission.{Submission}
 use Rattle.unit_core.specs.Units.{UnitState, FabricState, aim_of}
@@ -34,7 +34,7 @@ FindsNothing s None = Unit {0}
 FindsNothing s (Some e) = (HasNoUnit s e ⊎ JudgesNothing s e) ⊎ EndsPastAll s e
 
 pub record IsNoSuchExactly (s : FabricState) (place word : ℕ) : Type 0 where
-  pub exactly : (reply_to_word s place word ≡ NoSuch) ↔ FindsNothing s (event_at word)
+  pub exactly : (reply_to_word s place word ≡ NoSuch) ↔ FindsNothing s (event_of_word word)
   -- nothing changes then
   pub stays : reply_to_word s place word ≡ NoSuch → state_after_word s place word ≡ s
 

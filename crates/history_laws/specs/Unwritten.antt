@@ -7,15 +7,15 @@ use Rattle.event_words.specs.declared.access.Access.{Access}
 use Rattle.event_words.specs.declared.reply.Verdict.{Verdict as AnyVerdict}
 use Rattle.event_words.specs.declared.event.Event.TheVariants.{Judge}
 use Rattle.event_words.specs.declared.reply.Reply.TheVariants.{Verdict}
-use Rattle.event_words.specs.Runs.{bearer}
-use Rattle.event_words.specs.Sections.{SectionOf, WritesNothing}
+use Rattle.event_words.specs.Runs.{caller_of_word}
+use Rattle.event_words.specs.Sections.{SectionOf, HasNoRegisterWrites}
 use Rattle.unit_core.specs.Units.{UnitState}
 use Rattle.unit_core.specs.Histories.{IsLegalHistory, history_of, units_after, event_at, reply_at}
 use Rattle.history_laws.specs.Tickets.{IsTaken}
 use Rattle.history_laws.specs.Verdicts.{decided}
 
 abbrev pub is_boot : ℕ → Bool
-is_boot word = bearer word == 0
+is_boot word = caller_of_word word == 0
 
 -- The units after the boot section's events.
 abbrev pub units_after_boot : List Shape → List ℕ → List UnitState
@@ -33,5 +33,5 @@ pub record IsDecidedByBoot (shapes : List Shape) (words : List ℕ) (u caller q 
 -- In a legal history of a script whose lanes write no register, each verdict on a lane's judgement is
 -- decided so.
 abbrev pub LawUnwritten : Type 0
-LawUnwritten = (shapes : List Shape) (boot : SectionOf) (lanes : List SectionOf) (words : List ℕ) → IsLegalHistory shapes boot lanes words → AllByRecursion WritesNothing lanes
+LawUnwritten = (shapes : List Shape) (boot : SectionOf) (lanes : List SectionOf) (words : List ℕ) → IsLegalHistory shapes boot lanes words → AllByRecursion HasNoRegisterWrites lanes
     → (u caller q p : ℕ) (verdict : AnyVerdict) → 1 ≤ caller → event_at (history_of shapes words) p ≡ Some (Judge u caller q) → reply_at (history_of shapes words) p ≡ Some (Verdict verdict) → IsDecidedByBoot shapes words u caller q verdict

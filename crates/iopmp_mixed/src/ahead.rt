@@ -71,7 +71,7 @@ impl<S: Source> AheadSource<S> {
     }
 
     /// Takes bytes from the other source until it ends, fails, or gave more than `limit`. What is left stays.
-    pub fn look(&mut self, limit: usize)
+    pub fn read_ahead(&mut self, limit: usize)
         ensures { LooksAhead S.left self.old self.new }
     {
         if !self.failed {

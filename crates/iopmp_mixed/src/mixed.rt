@@ -31,7 +31,7 @@ fn count_lanes<S: Source>(alloc: Global, words: &[String], source: &mut AheadSou
 {
     let lanes = played(words);
     if lanes.are_read() {
-        source.look(MOST_BYTES);
+        source.read_ahead(MOST_BYTES);
     }
     let bytes = source.ahead();
     if bytes.len() > MOST_BYTES {

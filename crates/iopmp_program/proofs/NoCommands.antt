@@ -8,12 +8,12 @@ use Rattle.event_words.specs.declared.event.Event.{Event}
 use Rattle.event_words.specs.declared.reply.Reply.{Reply}
 use Rattle.event_words.specs.declared.record.LoggedEvent.{LoggedEvent}
 use Rattle.event_words.specs.declared.record.SectionEnd.TheVariants.{Done}
-use Rattle.event_words.specs.Word.{event_at}
+use Rattle.event_words.specs.Word.{event_of_word}
 use Rattle.event_words.specs.Events.{caller_of}
-use Rattle.event_words.specs.Runs.{bearer, IsEventWord, logged_from, logged_first}
+use Rattle.event_words.specs.Runs.{caller_of_word, IsEventWord, logged_from, logged_first}
 use Rattle.event_words.specs.Sections.{SectionOf}
-use Rattle.event_words.specs.Records.{end_from, nothing_left, events_by, is_by}
-use Rattle.event_words.proofs.Runs.{bearer-word_of, event_at-word_of}
+use Rattle.event_words.specs.Records.{end_of_commands, nothing_left, events_by, is_by}
+use Rattle.event_words.proofs.Runs.{caller_of_word-word_of, event_of_word-word_of}
 use Rattle.unit_core.specs.Units.{FabricState, fabric_at_reset}
 use Rattle.unit_core.specs.Fabrics.{state_after_word, reply_to_word}
 use Rattle.unit_core.specs.Histories.{IsOfLane, HasRecord, HaveRecords, IsLegalHistory, logged_in}
@@ -28,7 +28,7 @@ none_left [] h = refl
 none_left (x ∷ xs) h = absurd (let n : false ≡ true = h in cc)
 
 none_by : (xs : List LoggedEvent) (c : ℕ) (s : SectionOf) → HasNoCommands s → HasRecord xs c s → events_by c xs ≡ []
-none_by xs c s none h = none_left (events_by c xs) (subst (λ cs. IsSome (end_from c cs [] (events_by c xs))) none h)
+none_by xs c s none h = none_left (events_by c xs) (subst (λ cs. IsSome (end_of_commands c cs [] (events_by c xs))) none h)
 
 none_of : (xs : List LoggedEvent) (i : ℕ) (ss : List SectionOf) → HaveRecords xs i ss → AllByRecursion HasNoCommands ss → (c : ℕ) → i ≤ c → c < i + length ss → events_by c xs ≡ []
 none_of xs i [] records none c l u = absurd (omega arith)
@@ -51,13 +51,13 @@ first_of c k r (Some d) e xs p h =
     let same : d ≡ e = cc in
     (λ is. let yes : is_by c x ≡ true = eq-eqb (caller_of d) c (ap caller_of same ∙ is) in let no = both.0 in cc, both.1)
 
-no_word : (c k : ℕ) (us : FabricState) (ws : List ℕ) → AllByRecursion IsEventWord ws → events_by c (logged_from state_after_word reply_to_word k us ws) ≡ [] → AllByRecursion (λ w. bearer w ≡ c → ⊥) ws
+no_word : (c k : ℕ) (us : FabricState) (ws : List ℕ) → AllByRecursion IsEventWord ws → events_by c (logged_from state_after_word reply_to_word k us ws) ≡ [] → AllByRecursion (λ w. caller_of_word w ≡ c → ⊥) ws
 no_word c k us [] all h = tt
 no_word c k us (w ∷ ws) all h =
     let f = word_event w all.0 in
-    let read : event_at w ≡ Some f.event = ap event_at f.is ∙ event_at-word_of f.event f.valid in
-    let both = first_of c k (reply_to_word us k w) (event_at w) f.event (logged_from state_after_word reply_to_word (suc k) (state_after_word us k w) ws) read h in
-    (λ b. both.0 (sym (bearer-word_of f.event f.valid) ∙ ap bearer (sym f.is) ∙ b), no_word c (suc k) (state_after_word us k w) ws all.1 both.1)
+    let read : event_of_word w ≡ Some f.event = ap event_of_word f.is ∙ event_of_word-word_of f.event f.valid in
+    let both = first_of c k (reply_to_word us k w) (event_of_word w) f.event (logged_from state_after_word reply_to_word (suc k) (state_after_word us k w) ws) read h in
+    (λ b. both.0 (sym (caller_of_word-word_of f.event f.valid) ∙ ap caller_of_word (sym f.is) ∙ b), no_word c (suc k) (state_after_word us k w) ws all.1 both.1)
 
 -- ---- so no word is a lane's
 
@@ -71,9 +71,9 @@ no_others shapes boot lanes words before [] h none is of = refl
 no_others shapes boot lanes words before (w ∷ ws) h none is of =
     let low = of.0.0 in
     let high = of.0.1 in
-    let no = none_of (logged_in shapes words) 1 lanes h.lane_records none (bearer w) low (omega (arith, high)) in
-    let all = no_word (bearer w) 0 (fabric_at_reset shapes) words h.events no in
-    absurd (among (λ v. bearer v ≡ bearer w → ⊥) before w ws (subst (AllByRecursion (λ v. bearer v ≡ bearer w → ⊥)) is all) refl)
+    let no = none_of (logged_in shapes words) 1 lanes h.lane_records none (caller_of_word w) low (omega (arith, high)) in
+    let all = no_word (caller_of_word w) 0 (fabric_at_reset shapes) words h.events no in
+    absurd (among (λ v. caller_of_word v ≡ caller_of_word w → ⊥) before w ws (subst (AllByRecursion (λ v. caller_of_word v ≡ caller_of_word w → ⊥)) is all) refl)
 
 without_lanes : (shapes : List Shape) (boot : SectionOf) (lanes : List SectionOf) (words : List ℕ) → AllByRecursion HasNoCommands lanes → IsLegalHistory shapes boot lanes words → IsLegalHistory shapes boot [] words
 without_lanes shapes boot lanes words none h =

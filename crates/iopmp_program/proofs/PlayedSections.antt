@@ -10,9 +10,9 @@ use Rattle.std.specs.List.{AllByRecursion}
 use Rattle.event_words.specs.declared.shape.Shape.{Shape}
 use Rattle.event_words.specs.declared.record.LoggedEvent.{LoggedEvent}
 use Rattle.event_words.specs.declared.record.SectionEnd.{SectionEnd}
-use Rattle.event_words.specs.Runs.{bearer, logged}
+use Rattle.event_words.specs.Runs.{caller_of_word, logged}
 use Rattle.event_words.specs.Records.{section_end, events_by}
-use Rattle.event_words.specs.Sections.{SectionOf, events_of, NamesOnlyUnits}
+use Rattle.event_words.specs.Sections.{SectionOf, most_section_events, NamesOnlyUnits}
 use Rattle.script_reader.specs.Scripts.{ScriptOf, most_from, need_of}
 use Rattle.unit_core.specs.Units.{FabricState, fabric_at_reset}
 use Rattle.unit_core.specs.Fabrics.{state_after_word, reply_to_word}
@@ -23,7 +23,7 @@ use Rattle.shared_log.specs.Histories.{HoldsCaller}
 use Rattle.shared_log.proofs.WordLists.{words-append, append-none-right}
 use Rattle.shared_log.proofs.Counting.{words-own, words-other}
 use Rattle.shared_log.proofs.Histories.{own_events-in-history, own_events-at-first}
-use Rattle.checker_workers.specs.Ports.{PortView, IsAtReset, own_events}
+use Rattle.checker_workers.specs.Ports.{PortView, IsAtReset, port_events}
 use Rattle.checker_workers.specs.Lanes.{LaneView, MayPlay, MayRun, Runs}
 use Rattle.checker_workers.specs.declared.lane.LaneEnd.TheVariants.{Fresh}
 use Rattle.checker_workers.proofs.Turns.{belongs_still}
@@ -52,36 +52,36 @@ records events i (s ∷ ss) h = (
 
 -- ---- whose events come first
 
-at_most : (w : ℕ) (ws : List ℕ) → words_by (bearer w) (w ∷ ws) ≡ [] → ⊥
-at_most w ws none = let e : w ∷ words_by (bearer w) ws ≡ [] = sym (words-own (bearer w) w ws refl) ∙ none in cc
+at_most : (w : ℕ) (ws : List ℕ) → words_by (caller_of_word w) (w ∷ ws) ≡ [] → ⊥
+at_most w ws none = let e : w ∷ words_by (caller_of_word w) ws ≡ [] = sym (words-own (caller_of_word w) w ws refl) ∙ none in cc
 
-below : (n w : ℕ) (ws : List ℕ) → ((c : ℕ) → n ≤ c → words_by c (w ∷ ws) ≡ []) → Dec (n ≤ bearer w) → bearer w < n
-below n w ws none (yes h) = absurd (at_most w ws (none (bearer w) h))
+below : (n w : ℕ) (ws : List ℕ) → ((c : ℕ) → n ≤ c → words_by c (w ∷ ws) ≡ []) → Dec (n ≤ caller_of_word w) → caller_of_word w < n
+below n w ws none (yes h) = absurd (at_most w ws (none (caller_of_word w) h))
 below n w ws none (no h) = lt_of_not-le h
 
-tail_at : (c w : ℕ) (ws : List ℕ) → words_by c (w ∷ ws) ≡ [] → Dec (bearer w ≡ c) → words_by c ws ≡ []
+tail_at : (c w : ℕ) (ws : List ℕ) → words_by c (w ∷ ws) ≡ [] → Dec (caller_of_word w ≡ c) → words_by c ws ≡ []
 tail_at c w ws none (yes h) = let e : w ∷ words_by c ws ≡ [] = sym (words-own c w ws h) ∙ none in cc
 tail_at c w ws none (no h) = sym (words-other c w ws h) ∙ none
 
 tail_of : (c w : ℕ) (ws : List ℕ) → words_by c (w ∷ ws) ≡ [] → words_by c ws ≡ []
-tail_of c w ws none = tail_at c w ws none (ℕ_discrete (bearer w) c)
+tail_of c w ws none = tail_at c w ws none (ℕ_discrete (caller_of_word w) c)
 
 tail : (n w : ℕ) (ws : List ℕ) → ((c : ℕ) → n ≤ c → words_by c (w ∷ ws) ≡ []) → (c : ℕ) → n ≤ c → words_by c ws ≡ []
 tail n w ws none c h = tail_of c w ws (none c h)
 
-other : (w : ℕ) (ws : List ℕ) → words_by 0 (w ∷ ws) ≡ [] → Dec (bearer w ≡ 0) → 1 ≤ bearer w
+other : (w : ℕ) (ws : List ℕ) → words_by 0 (w ∷ ws) ≡ [] → Dec (caller_of_word w ≡ 0) → 1 ≤ caller_of_word w
 other w ws none (yes h) = let e : w ∷ words_by 0 ws ≡ [] = sym (words-own 0 w ws h) ∙ none in cc
 other w ws none (no h) = omega arith
 
 boot_words : (ws : List ℕ) → ((c : ℕ) → 1 ≤ c → words_by c ws ≡ []) → AllByRecursion IsBoot ws
 boot_words [] none = tt
-boot_words (w ∷ ws) none = (let lt = below 1 w ws none (dec_le 1 (bearer w)) in omega arith, boot_words ws (tail 1 w ws none))
+boot_words (w ∷ ws) none = (let lt = below 1 w ws none (dec_le 1 (caller_of_word w)) in omega arith, boot_words ws (tail 1 w ws none))
 
 lane_words : (n : ℕ) (ws : List ℕ) → words_by 0 ws ≡ [] → ((c : ℕ) → n + 1 ≤ c → words_by c ws ≡ []) → AllByRecursion (IsOfLane n) ws
 lane_words n [] first none = tt
 lane_words n (w ∷ ws) first none =
-    let lt = below (n + 1) w ws none (dec_le (n + 1) (bearer w)) in
-    ((other w ws first (ℕ_discrete (bearer w) 0), omega arith), lane_words n ws (tail_of 0 w ws first) (tail (n + 1) w ws none))
+    let lt = below (n + 1) w ws none (dec_le (n + 1) (caller_of_word w)) in
+    ((other w ws first (ℕ_discrete (caller_of_word w) 0), omega arith), lane_words n ws (tail_of 0 w ws first) (tail (n + 1) w ws none))
 
 boot_first : (n : ℕ) (history log rest : List ℕ) → history ≡ log ++ rest → ((c : ℕ) → 1 ≤ c → words_by c log ≡ []) → words_by 0 rest ≡ [] → ((c : ℕ) → n + 1 ≤ c → words_by c history ≡ []) → BootComesFirst n history
 boot_first n history log rest is own none others = record {
@@ -112,7 +112,7 @@ legal shapes boot lanes history first rest events holds hold others played own c
 -- ---- lanes
 
 -- a lane whose caller made no event before it ran
-played : (first : FabricState) (number : ℕ) (section : SectionOf) (l m : LaneView) → l.section ≡ section → l.port.number ≡ number → l.port.first ≡ first → own_events l.port ≡ []
+played : (first : FabricState) (number : ℕ) (section : SectionOf) (l m : LaneView) → l.section ≡ section → l.port.number ≡ number → l.port.first ≡ first → port_events l.port ≡ []
     → Runs l m → HasPlayed first number section m.port
 played first number section l m section_is number_is first_is none r =
     let own : (n : ℕ) (s : FabricState) → Type 0 = λ n s. events_by n (logged state_after_word reply_to_word s m.port.log) ≡ r.made in
@@ -128,7 +128,7 @@ played first number section l m section_is number_is first_is none r =
       record_is = subst (λ xs. IsSome (section_end number section xs)) (sym made) (subst (λ (o : Option SectionEnd). IsSome o) (sym ended) refl);
     }
 
-no_events : (p : PortView) → p.log ≡ [] → own_events p ≡ []
+no_events : (p : PortView) → p.log ≡ [] → port_events p ≡ []
 no_events p none = ap (λ (words : List ℕ). events_by p.number (logged state_after_word reply_to_word p.first words)) none
 
 pub boot_first_still : (shared : SharedView) (p : PortView) (section : SectionOf) (l m : LaneView) → IsFirstCaller shared p → l ≡ record { section = section; port = p; ended = Fresh } → Runs l m
@@ -163,7 +163,7 @@ ready shared first number section c lane is belongs number_is first_is left budg
       number_is = ap (λ (v : PortView). v.number) port ∙ number_is;
       first_is = ap (λ (v : PortView). v.first) port ∙ first_is;
       belongs = subst (λ v. Belongs v shared) (sym port) belongs;
-      none = ap own_events port ∙ own_events-at-first state_after_word reply_to_word c budget (left ∙ sym belongs.2);
+      none = ap port_events port ∙ own_events-at-first state_after_word reply_to_word c budget (left ∙ sym belongs.2);
     }
 
 pub ran : (shared : SharedView) (first : FabricState) (number : ℕ) (section : SectionOf) (lane : LaneView) (c : PortView) → IsReadyLane shared first number section lane → RunsTo lane c
@@ -228,16 +228,16 @@ more_ready_for shared first players player lanes after lane n r pushed number l 
 
 pub at_least : (n : ℕ) (ss : List SectionOf) → n ≤ most_from n ss
 at_least n [] = omega arith
-at_least n (s ∷ ss) = let h = at_least (max n (events_of s)) ss in omega arith
+at_least n (s ∷ ss) = let h = at_least (max n (most_section_events s)) ss in omega arith
 
 pub each_within : (n : ℕ) (ss : List SectionOf) → AllByRecursion (HasAtMost (most_from n ss)) ss
 each_within n [] = tt
-each_within n (s ∷ ss) = (let h = at_least (max n (events_of s)) ss in omega arith, each_within (max n (events_of s)) ss)
+each_within n (s ∷ ss) = (let h = at_least (max n (most_section_events s)) ss in omega arith, each_within (max n (most_section_events s)) ss)
 
 -- the need divided by the callers
-pub shared_need : (script : ScriptOf) (count need : ℕ) → count ≡ length script.lanes → need ≡ need_of script → need / (count + 1) ≡ most_from (max 1 (events_of script.boot)) script.lanes
+pub shared_need : (script : ScriptOf) (count need : ℕ) → count ≡ length script.lanes → need ≡ need_of script → need / (count + 1) ≡ most_from (max 1 (most_section_events script.boot)) script.lanes
 shared_need script count need c n =
-    let most : ℕ = most_from (max 1 (events_of script.boot)) script.lanes in
+    let most : ℕ = most_from (max 1 (most_section_events script.boot)) script.lanes in
     let some : 0 < length script.lanes + 1 = omega arith in
     ap (λ k. need / (k + 1)) c ∙ ap (λ v. v / (length script.lanes + 1)) n ∙ mul-div_cancel_left most some
 

@@ -8,7 +8,7 @@ use Rattle.event_words.specs.declared.section.Command.{Command}
 use Rattle.event_words.specs.declared.section.Command.TheVariants.{Write, Until}
 use Rattle.event_words.specs.Registers.{index_count, index_of}
 use Rattle.event_words.specs.declared.register.Register.TheVariants.{Mdstall}
-use Rattle.event_words.specs.Sections.{SectionOf, most_events, events_of}
+use Rattle.event_words.specs.Sections.{SectionOf, most_events, most_section_events}
 use Rattle.script_reader.specs.Answers.{reading_of}
 use Rattle.script_reader.specs.Canonical.{IsToldWholly, IsReadableScript, with_lane, text_before_end}
 use Rattle.script_reader.specs.Printed.{script_text, lane_text}
@@ -59,7 +59,7 @@ image_formed policy good fits = record {
   lanes_units = tt;
 }
 
-image_events : (policy : PolicyOf) → IsPolicy policy → need_refusal policy ≡ None → events_of (image_section (image_of policy)) ≤ 65536
+image_events : (policy : PolicyOf) → IsPolicy policy → need_refusal policy ≡ None → most_section_events (image_section (image_of policy)) ≤ 65536
 image_events policy good fits = let few = few_writes policy good fits in omega (arith, few, writes_events (image_of policy).writes)
 
 pub image_read_back : (policy : PolicyOf) (text : List ℕ) → IsPolicy policy → need_refusal policy ≡ None → text ≡ script_text (image_script (image_of policy)) → reading_of text ≡ Ok (image_script (image_of policy))
@@ -122,7 +122,7 @@ plan_events old new polls entries few =
       rewritten_few old new,
     )
 
-readable : (u : UpdateOf) (plan : SectionOf) → IsReadable u → IsPlayablePlan u plan → AllByRecursion IsToldWhole plan.commands → events_of plan ≤ 65536 → IsReadableScript (with_lane (old_script u) plan)
+readable : (u : UpdateOf) (plan : SectionOf) → IsReadable u → IsPlayablePlan u plan → AllByRecursion IsToldWhole plan.commands → most_section_events plan ≤ 65536 → IsReadableScript (with_lane (old_script u) plan)
 unfolding image_of
 readable u plan good p told few = record {
   formed = beside.formed u plan [] good p (record { few = omega arith; valid = tt; units_there = tt; write_nothing = tt });
@@ -133,7 +133,7 @@ readable u plan good p told few = record {
 }
 
 -- so of any plan that is told whole and has few events
-pub lane_read_back : (u : UpdateOf) (plan : SectionOf) (text : List ℕ) → IsReadable u → IsPlayablePlan u plan → AllByRecursion IsToldWhole plan.commands → events_of plan ≤ 65536 → text ≡ lane_text 1 plan ++ codes "end\n"
+pub lane_read_back : (u : UpdateOf) (plan : SectionOf) (text : List ℕ) → IsReadable u → IsPlayablePlan u plan → AllByRecursion IsToldWhole plan.commands → most_section_events plan ≤ 65536 → text ≡ lane_text 1 plan ++ codes "end\n"
     → reading_of (text_before_end (old_script u) ++ text) ≡ Ok (with_lane (old_script u) plan)
 lane_read_back u plan text good p told few printed =
     ap (λ t. reading_of (text_before_end (old_script u) ++ t)) printed ∙ lane_reads_back 1 plan (old_script u) refl (readable u plan good p told few)

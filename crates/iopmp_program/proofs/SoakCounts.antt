@@ -18,8 +18,8 @@ use Rattle.event_words.specs.Events.{caller_of}
 use Rattle.event_words.specs.Decisions.{decision}
 use Rattle.event_words.specs.declared.reply.Reply.TheVariants as replies
 use Rattle.event_words.specs.Runs.{IsEventWord}
-use Rattle.event_words.specs.Sections.{SectionOf, WritesNothing}
-use Rattle.event_words.specs.Records.{end_from, events_by, is_by}
+use Rattle.event_words.specs.Sections.{SectionOf, HasNoRegisterWrites}
+use Rattle.event_words.specs.Records.{end_of_commands, events_by, is_by}
 use Rattle.event_words.specs.Stalls.{flag_of}
 use Rattle.policy_compiler.specs.declared.image.RegPair.{RegPair}
 use Rattle.policy_compiler.specs.Laws.{kind_of}
@@ -189,9 +189,9 @@ only zero x e = cc
 only (suc u) x e = absurd (let n : None ≡ Some x = e in cc)
 
 calm : IsUnstalled booted
-calm = record { free = λ s. none_flagged 3 s; items = tt }
+calm = record { no_flag = λ s. none_flagged 3 s; items = tt }
 
-module _ (lanes : List SectionOf) (words : List ℕ) (legal : IsLegalHistory shapes generated_boot lanes words) (silent : AllByRecursion WritesNothing lanes) where
+module _ (lanes : List SectionOf) (words : List ℕ) (legal : IsLegalHistory shapes generated_boot lanes words) (silent : AllByRecursion HasNoRegisterWrites lanes) where
   abbrev xs : List LoggedEvent
   xs = logged_in shapes words
 
@@ -208,8 +208,8 @@ module _ (lanes : List SectionOf) (words : List ℕ) (legal : IsLegalHistory sha
   codes_of_lane : (c : ℕ) (s : SectionOf) → 1 ≤ c → IsJudgedLane 4096 s → HasRecord xs c s → verdict_codes (events_by c xs) ≡ map decided_code (lane_accesses s)
   codes_of_lane c s some lane recorded =
       let own = events_by c (logged_in shapes words) in
-      let ended = some_of (end_from c s.commands [] (events_by c (logged_in shapes words))) recorded in
-      let cut = subst (λ cs. end_from c cs [] (events_by c (logged_in shapes words)) ≡ Some ended.0) lane.commands ended.1 in
+      let ended = some_of (end_of_commands c s.commands [] (events_by c (logged_in shapes words))) recorded in
+      let cut = subst (λ cs. end_of_commands c cs [] (events_by c (logged_in shapes words)) ≡ Some ended.0) lane.commands ended.1 in
       let passes = all_of (IsPassed shapes generated_boot lanes words unwritten c) (PassesHere c (decided booted)) (events_by c (logged_in shapes words)) (λ x p a e. p 0 generated_shape a refl e) (all_passed shapes generated_boot lanes words unwritten c some) in
       let pairs = pairs_of (IsAnswered shapes generated_boot lanes words unwritten c) (IsDecidedNext c (decided booted)) (events_by c (logged_in shapes words))
       (λ x y p a e f. p 0 generated_shape a refl e f ∙ ap (λ s. replies.Verdict (decided s a)) state_is) (pairs_answered shapes generated_boot lanes words unwritten c some) in
@@ -276,7 +276,7 @@ unfolding generated_script soak_text
 soaked number words legal =
     let lanes = map (generated_lane number) (range_with_len 0 8) in
     let judged = each_lane (IsJudgedLane 4096) number 0 8 (generated_judged number) in
-    let silent = each_lane WritesNothing number 0 8 (generated_quiet number) in
+    let silent = each_lane HasNoRegisterWrites number 0 8 (generated_quiet number) in
     let weight = same_weight (map (generated_lane number) (range_with_len 0 8)) words legal silent judged in
     let few = length-map-range_with_len (generated_lane number) 0 8 in
     let many = all_accesses (map (generated_lane number) (range_with_len 0 8)) judged in

@@ -2,14 +2,14 @@
 use Rattle.std.specs.Prelude.{◌≡◌, ℕ, ◌+◌, ◌<◌, ◌≤◌, List, [], length, slice_index_or}
 use Rattle.std.specs.List.{AllByRecursion}
 use Rattle.event_words.specs.declared.shape.Shape.{Shape}
-use Rattle.event_words.specs.Sections.{SectionOf, IsValidSection, NamesOnlyUnits, events_of}
+use Rattle.event_words.specs.Sections.{SectionOf, IsValidSection, NamesOnlyUnits, most_section_events}
 use Rattle.event_words.specs.Runs.{logged}
 use Rattle.unit_core.specs.Units.{FabricState}
 use Rattle.unit_core.specs.Fabrics.{FabricView, state_after_word, reply_to_word, opening}
 use Rattle.unit_core.specs.Histories.{HasRecord}
 use Rattle.shared_log.specs.Callers.{SharedView, Belongs}
 use Rattle.checker_workers.specs.declared.lane.LaneEnd.TheVariants.{Fresh}
-use Rattle.checker_workers.specs.Ports.{PortView, IsAtReset, own_events}
+use Rattle.checker_workers.specs.Ports.{PortView, IsAtReset, port_events}
 use Rattle.checker_workers.specs.Lanes.{LaneView, Runs}
 use Rattle.iopmp_program.specs.declared.playing.players.Player.{Player}
 
@@ -51,13 +51,13 @@ pub record MaySplit (shared : SharedView) (c : PortView) : Type 0 where
 
 -- The section makes at most so many events.
 abbrev pub HasAtMost : ℕ → SectionOf → Type 0
-HasAtMost most section = events_of section ≤ most
+HasAtMost most section = most_section_events section ≤ most
 
 -- What a section needs of units and of a budget to be played.
 pub record MayBePlayed (units budget : ℕ) (section : SectionOf) : Type 0 where
   pub valid : IsValidSection section
   pub units_there : NamesOnlyUnits units section
-  pub enough : events_of section ≤ budget
+  pub enough : most_section_events section ≤ budget
 
 abbrev pub MayAllPlay : ℕ → ℕ → List SectionOf → Type 0
 MayAllPlay units budget sections = AllByRecursion (MayBePlayed units budget) sections
@@ -72,7 +72,7 @@ pub record IsReadyLane (shared : SharedView) (first : FabricState) (number : ℕ
   pub number_is : lane.port.number ≡ number
   pub first_is : lane.port.first ≡ first
   pub belongs : Belongs lane.port shared
-  pub none : own_events lane.port ≡ []
+  pub none : port_events lane.port ≡ []
 
 -- so for each lane of a list, of which the first has number 1
 pub record AreReadyLanes (shared : SharedView) (first : FabricState) (sections : List SectionOf) (lanes : List LaneView) : Type 0 where

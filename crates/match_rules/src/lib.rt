@@ -5,7 +5,7 @@
 ghost use Rattle.std.specs.Prelude.{◌≡◌, ℕ, ◌+◌, ◌<◌, IsTrue, IfSome, Some, List};
 ghost use Rattle.event_words.specs.Valid.{IsValidAccess};
 ghost use Rattle.event_words.specs.Registers.{Registers};
-ghost use Rattle.event_words.specs.Decisions.{is_entry_of, decision, violation, by_touching, by_covering};
+ghost use Rattle.event_words.specs.Decisions.{is_entry_of, decision, violation, decide_by_hit, by_covering};
 ghost use Rattle.match_rules.specs.Summaries.{IsSummary};
 
 mod covering;
@@ -44,11 +44,11 @@ fn by_covering(access: &Access, summary: Summary) -> Decision
     }
 }
 
-fn by_touching(regs: &Regs, access: &Access, entry: u16) -> Decision
+fn decide_by_hit(regs: &Regs, access: &Access, entry: u16) -> Decision
     requires entry { entry < regs.now.shape.entries }
     requires access { IsValidAccess access.now }
     requires own { IsTrue (is_entry_of regs.now access.now.rrid entry) }
-    ensures { result ≡ by_touching regs.now access.now (Some entry) }
+    ensures { result ≡ decide_by_hit regs.now access.now (Some entry) }
 {
     let kind = access.kind.code();
     if !covers(regs, entry, access) {
@@ -89,7 +89,7 @@ pub fn decide(regs: &Regs, access: &Access) -> Decision
         return violation(6, 0xffff);
     }
     match first_touching(regs, access) {
-        Some(entry) => by_touching(regs, access, entry),
+        Some(entry) => decide_by_hit(regs, access, entry),
         None => by_covering(access, covering(regs, access)),
     }
 }

@@ -15,7 +15,7 @@ use Rattle.event_words.specs.Sections.{SectionOf}
 use Rattle.event_words.specs.Word.{word_of}
 use Rattle.event_words.specs.Valid.{IsValidAccess, IsValidEvent, IsValidHead, IsValidShape}
 use Rattle.event_words.specs.Events.{same_event}
-use Rattle.event_words.specs.Runs.{IsEventWord, bearer}
+use Rattle.event_words.specs.Runs.{IsEventWord, caller_of_word}
 use Rattle.event_words.proofs.Runs.{word_of-is_word}
 use Rattle.policy_compiler.specs.Policies.{IsPolicy, IsRule, is_single}
 use Rattle.policy_compiler.specs.Needs.{need_refusal, need_domains, need_entries, rule_need}
@@ -25,7 +25,7 @@ use Rattle.policy_compiler.specs.Laws.{registers_after}
 use Rattle.update_planner.specs.Plans.{rewrites}
 use Rattle.unit_core.specs.Histories.{History, reply_at, history_of, logged_in, HasRecord, HaveRecords, BootComesFirst}
 use Rattle.unit_core.specs.Updates.{ReadsDrained, IsDrainedReading, IsUpdateWrite, IsRelease}
-use Rattle.history_laws.proofs.QuietRecords.{IsNoWrite}
+use Rattle.history_laws.proofs.QuietRecords.{IsNoWriteEvent}
 use Rattle.history_laws.proofs.Writes.{all_get, get_low, get_append}
 use Rattle.narrow_plans.specs.Views.{view_of}
 use Rattle.narrow_plans.specs.BetweenStates.{table_writes, between_states}
@@ -131,7 +131,7 @@ release = record {
     none_after : (m : ℕ) → IsUpdateWrite history (29 + m) → ⊥
     none_after m w =
         let e = sym (get_append up_to_release after_it m) ∙ w.event in
-        all_get IsNoWrite after_it m (RegWrite w.unit 1 w.index w.value) (tt, tt) e
+        all_get IsNoWriteEvent after_it m (RegWrite w.unit 1 w.index w.value) (tt, tt) e
 
 -- ---- it is a narrow history
 
@@ -248,7 +248,7 @@ all_valid = (
 )
 
 order : BootComesFirst 3 words
-unfolding bearer
+unfolding caller_of_word
 order = record {
   boot = map word_of boot_events;
   others = map word_of lane_events;

@@ -21,9 +21,9 @@ use Rattle.unit_core.specs.Units.{unit_step, is_stalled}
 use Rattle.unit_core.specs.Histories.{History, event_at, reply_at, history_of, logged_in}
 use Rattle.unit_core.specs.Submitted.{IsSubmission}
 use Rattle.unit_core.proofs.Runs.{own_at, reply_of, submit_of}
-use Rattle.history_laws.proofs.QuietRecords.{IsNoWrite}
+use Rattle.history_laws.proofs.QuietRecords.{IsNoWriteEvent}
 use Rattle.history_laws.proofs.Writes.{write_of, append_nothing, all_parts, all_both, CutInFirst, CutInSecond, two_cuts}
-use Rattle.history_laws.proofs.WriteRecords.{free}
+use Rattle.history_laws.proofs.WriteRecords.{release_write}
 use Rattle.history_laws.proofs.UnitStands.{flag_from, flag_append, taken_from}
 use Rattle.history_laws.proofs.PlanParts.{IsUpdate, StallNobody, flag_kept}
 use Rattle.history_laws.proofs.UpdateWrites.{rewrites_stall_nobody, image_stalls_nobody, with_stalls, past_stalls}
@@ -48,8 +48,8 @@ record IsOnTheWay (old tables done : List RegPair) : Type 0 where
   pub same : SameValues (old ++ done) (old ++ part)
 
 -- the release leaves the values too
-with_free : (old ws : List RegPair) → SameValues (old ++ (ws ++ free ∷ [])) (old ++ ws)
-with_free old ws i p q = ap (λ xs. value_of xs i) (sym (append_assoc old ws (free ∷ []))) ∙ value_other (old ++ ws) free i (λ e. p (sym e))
+with_release : (old ws : List RegPair) → SameValues (old ++ (ws ++ release_write ∷ [])) (old ++ ws)
+with_release old ws i p q = ap (λ xs. value_of xs i) (sym (append_assoc old ws (release_write ∷ []))) ∙ value_other (old ++ ws) release_write i (λ e. p (sym e))
 
 module _ (old stalls tables : List RegPair) (each : AllByRecursion IsStall stalls) where
   stalling : (done more : List RegPair) → stalls ≡ done ++ more → IsOnTheWay old tables done
@@ -57,33 +57,33 @@ module _ (old stalls tables : List RegPair) (each : AllByRecursion IsStall stall
       let part = all_parts IsStall done more (subst (AllByRecursion IsStall) e each) in
       record { part = []; rest = tables; is = refl; same = λ i p q. with_stalls old done part.0 i p q ∙ ap (λ xs. value_of xs i) (sym (append_nothing old)) }
 
-  rewriting : (done part to_do : List RegPair) → done ≡ stalls ++ part → part ++ to_do ≡ tables ++ free ∷ [] → IsOnTheWay old tables done
-  rewriting done part to_do e f = by (two_cuts part to_do tables (free ∷ []) f)
+  rewriting : (done part to_do : List RegPair) → done ≡ stalls ++ part → part ++ to_do ≡ tables ++ release_write ∷ [] → IsOnTheWay old tables done
+  rewriting done part to_do e f = by (two_cuts part to_do tables (release_write ∷ []) f)
     where
       same : SameValues (old ++ done) (old ++ part)
       same i p q = ap (λ ws. value_of (old ++ ws) i) e ∙ past_stalls old stalls part each i p q
 
-      last : (more : List RegPair) → more ++ to_do ≡ free ∷ [] → part ≡ tables ++ more → IsOnTheWay old tables done
+      last : (more : List RegPair) → more ++ to_do ≡ release_write ∷ [] → part ≡ tables ++ more → IsOnTheWay old tables done
       last [] g t = record { part = part; rest = []; is = sym (append_nothing part ∙ (t ∙ append_nothing tables)); same = same }
       last (w ∷ []) g t =
-          let free_is : w ≡ free = cc in
+          let release_is : w ≡ release_write = cc in
           record {
             part = tables;
             rest = [];
             is = sym (append_nothing tables);
-            same = λ i p q. same i p q ∙ (ap (λ ws. value_of (old ++ ws) i) (t ∙ ap (λ v. tables ++ v ∷ []) free_is) ∙ with_free old tables i p q);
+            same = λ i p q. same i p q ∙ (ap (λ ws. value_of (old ++ ws) i) (t ∙ ap (λ v. tables ++ v ∷ []) release_is) ∙ with_release old tables i p q);
           }
       last (w ∷ (v ∷ more)) g t = absurd (let n : v ∷ (more ++ to_do) ≡ [] = cc in cc)
 
-      by : CutInFirst part to_do tables (free ∷ []) ⊎ CutInSecond part to_do tables (free ∷ []) → IsOnTheWay old tables done
+      by : CutInFirst part to_do tables (release_write ∷ []) ⊎ CutInSecond part to_do tables (release_write ∷ []) → IsOnTheWay old tables done
       by (inl c) = record { part = part; rest = c.more; is = c.first; same = same }
       by (inr c) = last c.more c.rest c.taken
 
   on_the_way : (done to_do whole : List RegPair) → done ++ to_do ≡ whole → IsUpdate stalls tables whole → IsOnTheWay old tables done
   on_the_way done to_do whole e (inl w) = stalling done to_do (sym (e ∙ w))
-  on_the_way done to_do whole e (inr w) = by (two_cuts done to_do stalls (tables ++ free ∷ []) (e ∙ w))
+  on_the_way done to_do whole e (inr w) = by (two_cuts done to_do stalls (tables ++ release_write ∷ []) (e ∙ w))
     where
-      by : CutInFirst done to_do stalls (tables ++ free ∷ []) ⊎ CutInSecond done to_do stalls (tables ++ free ∷ []) → IsOnTheWay old tables done
+      by : CutInFirst done to_do stalls (tables ++ release_write ∷ []) ⊎ CutInSecond done to_do stalls (tables ++ release_write ∷ []) → IsOnTheWay old tables done
       by (inl c) = stalling done c.more c.first
       by (inr c) = rewriting done c.more to_do c.taken c.rest
 
@@ -97,7 +97,7 @@ update_spares : (s : ℕ) (stalls tables whole : List RegPair) → AllByRecursio
 update_spares s stalls tables whole spares quiet (inl e) = subst (AllByRecursion (Spares s)) (sym e) spares
 update_spares s stalls tables whole spares quiet (inr e) =
     subst (AllByRecursion (Spares s)) (sym e)
-    (all_both (Spares s) stalls (tables ++ free ∷ []) spares (all_both (Spares s) tables (free ∷ []) (nobody_spares s tables quiet) (refl, tt)))
+    (all_both (Spares s) stalls (tables ++ release_write ∷ []) spares (all_both (Spares s) tables (release_write ∷ []) (nobody_spares s tables quiet) (refl, tt)))
 
 -- ---- a narrow update
 
@@ -144,10 +144,10 @@ module _ (old new : PolicyOf) where
         let there = u.log.there p from.event (unit_step p x (Submit 0 caller a)).1 from.here reply in
         let after = past_boot (image_of old).writes stalls tables xs u.live p entry there (no_write from.event from.writes) in
         let is : length u.live.boot + (p - length u.live.boot) ≡ p = omega arith in
-        let free : is_stalled x a.rrid ≡ false = subst (λ k. is_stalled (unit old new stalls tables h xs u k) a.rrid ≡ false) is (unstalled (p - length u.live.boot) a.rrid calm) in
-        reply ∙ ap (λ r. Some r) (passes p x caller a free)
+        let unstalled_now : is_stalled x a.rrid ≡ false = subst (λ k. is_stalled (unit old new stalls tables h xs u k) a.rrid ≡ false) is (unstalled (p - length u.live.boot) a.rrid calm) in
+        reply ∙ ap (λ r. Some r) (passes p x caller a unstalled_now)
       where
-        no_write : (e : Event) → write_of e ≡ [] → IsNoWrite e
+        no_write : (e : Event) → write_of e ≡ [] → IsNoWriteEvent e
         no_write (RegWrite unit caller index value) w = absurd (let n : pair index value ∷ [] ≡ [] = w in cc)
         no_write _ w = tt
 

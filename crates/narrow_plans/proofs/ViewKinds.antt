@@ -11,7 +11,7 @@ use Rattle.event_words.specs.Registers.{Registers}
 use Rattle.event_words.specs.Guards.{is_enabled}
 use Rattle.event_words.specs.Domains.{is_known}
 use Rattle.event_words.specs.Entries.{is_byte_of, bytes_of, covers}
-use Rattle.event_words.specs.Decisions.{is_entry_of, entry_grants, prio_count, entries, is_touching, is_covering, by_touching, by_covering, covering, violation, illegal, decision}
+use Rattle.event_words.specs.Decisions.{is_entry_of, entry_grants, prio_count, entries, is_touching, is_covering, decide_by_hit, by_covering, covering, violation, illegal, decision}
 use Rattle.event_words.specs.declared.reply.Decision.TheVariants.{Allowed}
 use Rattle.event_words.specs.Word.{kind_code}
 use Rattle.entry_ranges.specs.declared.ByteRange.{ByteRange}
@@ -126,13 +126,13 @@ taken r a j true true = refl
 taken r a j true false = refl
 
 first_kind : (r : Registers) (a : Access) (others : ℕ) (js : List ℕ) → IsValidAccess a → kind_of (by_covering r a (covering r a)) ≡ others
-    → kind_of (by_touching r a (find (is_touching r a) js)) ≡ kind_of_first a others (find (hits a) (filter_map (seen_entry r a.rrid) js))
+    → kind_of (decide_by_hit r a (find (is_touching r a) js)) ≡ kind_of_first a others (find (hits a) (filter_map (seen_entry r a.rrid) js))
 first_kind r a others [] valid e = e
 first_kind r a others (j ∷ js) valid e = step (seen_entry r a.rrid j) (shows r a j valid) (first_kind r a others js valid e)
   where
     step : (o : Option EntryView) → Shows r a j o
-        → kind_of (by_touching r a (find (is_touching r a) js)) ≡ kind_of_first a others (find (hits a) (filter_map (seen_entry r a.rrid) js))
-        → kind_of (by_touching r a (find (is_touching r a) (j ∷ js))) ≡ kind_of_first a others (find (hits a) (cons_option o (filter_map (seen_entry r a.rrid) js)))
+        → kind_of (decide_by_hit r a (find (is_touching r a) js)) ≡ kind_of_first a others (find (hits a) (filter_map (seen_entry r a.rrid) js))
+        → kind_of (decide_by_hit r a (find (is_touching r a) (j ∷ js))) ≡ kind_of_first a others (find (hits a) (cons_option o (filter_map (seen_entry r a.rrid) js)))
     step None h ih = rw h.touching ih
     step (Some e) h ih = by_test (hits a e) _
         (λ t. rw (h.touching, t, h.covers, h.grants) (taken r a j (covered_by a e) (granted_by a.kind e)))
@@ -165,7 +165,7 @@ grants_decide r a (j ∷ js) =
     (λ t. let u : list_any (λ x. x) (map q (j ∷ js)) ≡ true = sym any ∙ t in rw (t, u) refl)
     (λ f. let u : list_any (λ x. x) (map q (j ∷ js)) ≡ false = sym any ∙ f in rw (f, u) refl)
 
-known_kind : (r : Registers) (a : Access) → IsValidAccess a → kind_of (by_touching r a (find (is_touching r a) (entries r))) ≡ kind_by_view (view_of r a.rrid) a
+known_kind : (r : Registers) (a : Access) → IsValidAccess a → kind_of (decide_by_hit r a (find (is_touching r a) (entries r))) ≡ kind_by_view (view_of r a.rrid) a
 unfolding view_of
 known_kind r a valid =
     first_kind r a _ (entries r) valid (grants_decide r a (covering r a) ∙ ap (kind_of_grants a) (rest_grants r a (entries r) valid))

@@ -10,7 +10,7 @@ use Rattle.event_words.specs.Guards.{is_enabled}
 use Rattle.event_words.specs.Entries.{is_byte_of}
 use Rattle.event_words.specs.Decisions.{decision}
 use Rattle.event_words.specs.Valid.{IsValidAccess}
-use Rattle.event_words.specs.Sections.{SectionOf, WritesNothing}
+use Rattle.event_words.specs.Sections.{SectionOf, HasNoRegisterWrites}
 use Rattle.policy_compiler.specs.Policies.{PolicyOf, IsPolicy}
 use Rattle.policy_compiler.specs.Needs.{need_refusal}
 use Rattle.policy_compiler.specs.Images.{image_of}
@@ -109,7 +109,7 @@ pub record IsNarrowHistory (old new : PolicyOf) (polls : ℕ) (lanes : List Sect
   pub shapes : old.shape ≡ new.shape
   pub old_fits : need_refusal old ≡ None
   pub new_fits : need_refusal new ≡ None
-  pub no_writes : AllByRecursion WritesNothing lanes
+  pub no_writes : AllByRecursion HasNoRegisterWrites lanes
   pub legal : IsLegalHistory (old.shape ∷ []) (image_section (image_of old)) (narrow_lanes old new polls lanes) words
 
 -- The states between decide alike on an unaffected requester, and each narrow history keeps the policies.

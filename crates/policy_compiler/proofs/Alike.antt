@@ -88,7 +88,7 @@ compiled r p room a =
       holds = holds_all r (hardware p.domains) (omega arith) bounds
           (λ k l. member_table r p.shape (guards_of_policy p) (hardware p.domains) k room a (format_of p.shape room.shape) l)
           (entries_alike r (last_of p.shape (guards_of_policy p) (hardware p.domains)) 0 (all_entries (hardware p.domains)) a.tables (entries_are p.shape (guards_of_policy p) (hardware p.domains) room));
-      free = owner_past r (hardware p.domains) bounds;
+      unowned = owner_past r (hardware p.domains) bounds;
       fits = omega arith;
     }
 

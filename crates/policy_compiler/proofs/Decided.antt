@@ -12,7 +12,7 @@ use Rattle.event_words.specs.Guards.{is_enabled}
 use Rattle.event_words.specs.Valid.{IsValidAccess}
 use Rattle.event_words.specs.Domains.{owner_of, is_known, is_associated}
 use Rattle.event_words.specs.Entries.{covers}
-use Rattle.event_words.specs.Decisions.{prio_count, is_entry_of, owned_by, entry_grants, is_touching, is_covering, entries, first_touching, covering, decision, by_touching, by_covering, illegal, violation}
+use Rattle.event_words.specs.Decisions.{prio_count, is_entry_of, owned_by, entry_grants, is_touching, is_covering, entries, first_touching, covering, decision, decide_by_hit, by_covering, illegal, violation}
 use Rattle.policy_compiler.specs.declared.policy.Rule.{Rule}
 use Rattle.policy_compiler.specs.declared.read.rules.RuleKind.TheVariants.{Guards, Grants}
 use Rattle.policy_compiler.specs.Policies.{DomainOf, PolicyOf, IsPolicy}
@@ -31,7 +31,7 @@ pub record IsCompiled (r : Registers) (p : PolicyOf) : Type 0 where
   pub enabled : is_enabled r ≡ true
   pub prio : prio_count r ≡ entry_count (hardware_of Guards p.domains)
   pub holds : Holds r 0 0 (hardware p.domains)
-  pub free : (j : ℕ) → entry_count (hardware p.domains) ≤ j → owner_of r j ≡ None
+  pub unowned : (j : ℕ) → entry_count (hardware p.domains) ≤ j → owner_of r j ≡ None
   pub fits : entry_count (hardware p.domains) ≤ r.shape.entries
 
 -- ---- kinds
@@ -49,7 +49,7 @@ touching_kind r a j false g = refl
 touching_kind r a j true true = refl
 touching_kind r a j true false = refl
 
-kind_related : (r : Registers) (a : Access) (ds : List DomainOf) (o : Option ℕ) (x : Option Rule) → Related r a o x → kind_of (by_covering r a (covering r a)) ≡ grants_kind a ds → kind_of (by_touching r a o) ≡ kind_by a ds x
+kind_related : (r : Registers) (a : Access) (ds : List DomainOf) (o : Option ℕ) (x : Option Rule) → Related r a o x → kind_of (by_covering r a (covering r a)) ≡ grants_kind a ds → kind_of (decide_by_hit r a o) ≡ kind_by a ds x
 unfolding guard_kind
 kind_related r a ds None None h e = e
 kind_related r a ds None (Some u) h e = absurd h
@@ -118,7 +118,7 @@ grants_decide r p a rest h good some known e =
     let zero_g : 0 + entry_count (hardware_of Guards p.domains) ≡ entry_count (hardware_of Guards p.domains) = omega arith in
     let total = count_append (hardware_of Guards p.domains) (hardware_of Grants p.domains) in
     let low : (j : ℕ) → j < entry_count (hardware_of Guards p.domains) → is_covering r a j ≡ false = λ j l. before_grants r a j (omega (arith, h.prio)) in
-    let high : (j : ℕ) → entry_count (hardware_of Guards p.domains) + entry_count (hardware_of Grants p.domains) ≤ j → is_covering r a j ≡ false = λ j l. of_nobody r a j (h.free j (omega arith)) in
+    let high : (j : ℕ) → entry_count (hardware_of Guards p.domains) + entry_count (hardware_of Grants p.domains) ≤ j → is_covering r a j ≡ false = λ j l. of_nobody r a j (h.unowned j (omega arith)) in
     let covered = any_all (is_covering r a) (entry_count (hardware_of Guards p.domains)) (entry_count (hardware_of Grants p.domains)) rest (any_grant (rule_covers a) a.rrid p.domains) low
     (ap (λ k. list_any (is_covering r a) (range_with_len k (entry_count (hardware_of Grants p.domains)))) (sym zero_g) ∙ held.covered_is) high in
     let allowed = any_all (granting r a) (entry_count (hardware_of Guards p.domains)) (entry_count (hardware_of Grants p.domains)) rest (any_grant (allows a) a.rrid p.domains) (λ j l. granting_none r a j (low j l))
@@ -137,7 +137,7 @@ guards_decide r p a rest h good some known e =
     subst (λ n. Related r a (find (is_touching r a) (range_with_len 0 n)) (first_guard (rule_touches a) a.rrid p.domains)) (sym e) all
 
 known_decide : (r : Registers) (p : PolicyOf) (a : Access) → IsCompiled r p → IsPolicy p → 1 ≤ a.len → a.rrid < r.shape.rrids
-    → kind_of (by_touching r a (first_touching r a)) ≡ kind_by a p.domains (first_guard (rule_touches a) a.rrid p.domains)
+    → kind_of (decide_by_hit r a (first_touching r a)) ≡ kind_by a p.domains (first_guard (rule_touches a) a.rrid p.domains)
 known_decide r p a h good some known =
     let total = count_append (hardware_of Guards p.domains) (hardware_of Grants p.domains) in
     let fits = h.fits in
@@ -147,7 +147,7 @@ known_decide r p a h good some known =
     (grants_decide r p a (r.shape.entries - entry_count (hardware p.domains)) h good some known (omega arith))
 
 by_known : (r : Registers) (p : PolicyOf) (a : Access) (b : Bool) → ltb a.rrid r.shape.rrids ≡ b → IsCompiled r p → IsPolicy p → 1 ≤ a.len
-    → kind_of (cond (not b) (violation 6 0xFFFF) (by_touching r a (first_touching r a))) ≡ cond (not b) 6 (kind_by a p.domains (first_guard (rule_touches a) a.rrid p.domains))
+    → kind_of (cond (not b) (violation 6 0xFFFF) (decide_by_hit r a (first_touching r a))) ≡ cond (not b) 6 (kind_by a p.domains (first_guard (rule_touches a) a.rrid p.domains))
 by_known r p a true e h good some = known_decide r p a h good some (ltb-true a.rrid r.shape.rrids e)
 by_known r p a false e h good some = refl
 
@@ -156,6 +156,6 @@ pub decided : (r : Registers) (p : PolicyOf) (a : Access) → IsCompiled r p →
 unfolding policy_decision
 decided r p a h good valid =
     let s : r.shape.rrids ≡ p.shape.rrids = ap (λ (x : Shape). x.rrids) h.shape in
-    ap (λ b. kind_of (cond (not b) Allowed (cond (not (is_known r a.rrid)) (violation 6 0xFFFF) (by_touching r a (first_touching r a))))) h.enabled
+    ap (λ b. kind_of (cond (not b) Allowed (cond (not (is_known r a.rrid)) (violation 6 0xFFFF) (decide_by_hit r a (first_touching r a))))) h.enabled
     ∙ (by_known r p a (ltb a.rrid r.shape.rrids) refl h good valid.shortest
     ∙ ap (λ n. cond (not (ltb a.rrid n)) 6 (kind_by a p.domains (first_guard (rule_touches a) a.rrid p.domains))) s)

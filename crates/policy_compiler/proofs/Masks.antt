@@ -7,7 +7,7 @@ use Rattle.std.proofs.lemmas.Nat.Bits.{bit_at-suc, bit_at_cat_high}
 use Rattle.event_words.specs.Registers.{has_bit}
 use Rattle.policy_compiler.specs.Images.{HardwareOf, enable_bits, permissions_from, permissions}
 use Rattle.policy_compiler.proofs.Puts.{members_at}
-use Rattle.policy_compiler.proofs.Steps.{four_times}
+use Rattle.policy_compiler.proofs.WriteSteps.{four_times}
 
 abbrev pub count_bit : Bool → ℕ
 count_bit b = cond b 1 0

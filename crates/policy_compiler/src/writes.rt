@@ -89,7 +89,7 @@ fn two_bits(rrid: u8) -> u64
 }
 
 /// The number with both bits of a requester, where it is a member.
-#[tactic(auto, using(crate::proofs::Steps::four_times, crate::proofs::Steps::four_small))]
+#[tactic(auto, using(crate::proofs::WriteSteps::four_times, crate::proofs::WriteSteps::four_small))]
 fn with_permission(members: u64, rrid: u8, bits: u64) -> u64
     requires rrid { rrid < 32 }
     requires bits { bits < 2 ^ (2 * rrid) }
@@ -104,7 +104,7 @@ fn with_permission(members: u64, rrid: u8, bits: u64) -> u64
 }
 
 /// The bits of SRCMD_PERM and SRCMD_PERMH as one number: both bits of each member.
-#[tactic(auto, unfolding(crate::specs::Images::permissions), using(crate::proofs::Steps::permissions_step))]
+#[tactic(auto, unfolding(crate::specs::Images::permissions), using(crate::proofs::WriteSteps::permissions_step))]
 fn permissions(rrids: u8, members: u64) -> u64
     requires { rrids ≤ 32 }
     ensures { result ≡ permissions rrids members }

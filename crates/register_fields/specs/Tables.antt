@@ -4,15 +4,15 @@ use Rattle.std.specs.List.{AllByRecursion}
 use Rattle.event_words.specs.declared.register.Field.{Field}
 use Rattle.event_words.specs.Registers.{ruled_field, reset_field}
 use Rattle.event_words.specs.Guards.{field_bits, read_only_bits}
-use Rattle.register_fields.specs.declared.fields.Term.{Term}
-use Rattle.register_fields.specs.declared.fields.Term.TheVariants.{Ruled, Reset, Whole, ReadOnly}
+use Rattle.register_fields.specs.declared.fields.FieldValue.{FieldValue}
+use Rattle.register_fields.specs.declared.fields.FieldValue.TheVariants.{Ruled, Reset, Whole, ReadOnly}
 
 -- what a field adds to a word
-abbrev pub term_of : Term → Field → ℕ
-term_of (Ruled old new) = ruled_field old new
-term_of Reset = reset_field
-term_of Whole = field_bits
-term_of ReadOnly = read_only_bits
+abbrev pub field_value : FieldValue → Field → ℕ
+field_value (Ruled old new) = ruled_field old new
+field_value Reset = reset_field
+field_value Whole = field_bits
+field_value ReadOnly = read_only_bits
 
 pub record IsField (f : Field) : Type 0 where
   pub inside : f.low + f.width ≤ 32

@@ -8,7 +8,7 @@ ghost use Rattle.event_words.specs.Denials.{with_error};
 ghost use Rattle.event_words.specs.WellFormed.{IsWellFormed, IsInside};
 ghost use Rattle.register_fields.specs.Rights.{rights_bits};
 
-use crate::fields::{Term, total};
+use crate::fields::{FieldValue, sum_of_register};
 use crate::layout::register_at;
 use crate::rights::Rights;
 use bitflags::Flags;
@@ -43,7 +43,7 @@ fn reset_word(shape: &Shape, index: u32) -> u32
     ensures { result ≡ reset_word shape.now index }
 {
     match register_at(shape, index) {
-        Some(register) => total(shape, register, Term::Reset),
+        Some(register) => sum_of_register(shape, register, FieldValue::Reset),
         None => 0,
     }
 }
@@ -153,7 +153,7 @@ impl Regs {
     {
         if let Some(register) = register_at(&self.shape, index) {
             let old = self.words[index as usize];
-            let new = total(&self.shape, register, Term::Ruled(old, value));
+            let new = sum_of_register(&self.shape, register, FieldValue::Ruled(old, value));
             self.words[index as usize] = merged(keep_mask, old, new);
         }
     }

@@ -3,14 +3,14 @@ use Rattle.std.proofs.Common.{◌≡◌, ℕ, ◌+◌, ◌≤◌, List, [], ◌�
 use Rattle.std.proofs.lemmas.List.Sums.{sum_by-cons}
 use Rattle.script_reader.specs.declared.step.StepError.{StepError}
 use Rattle.script_reader.specs.declared.step.StepError.TheVariants.{Code, NoMemory}
-use Rattle.script_reader.specs.declared.update_text.Wanted.{Wanted}
+use Rattle.script_reader.specs.declared.update_text.ExpectedPart.{ExpectedPart}
 use Rattle.script_reader.specs.Text.{lines_of}
 use Rattle.script_reader.specs.Lines.{State, line_step}
 use Rattle.script_reader.specs.Scripts.{Bad, lines_from, at_line}
 use Rattle.script_reader.specs.LiveLanes.{lanes_line_step, lanes_from}
 use Rattle.script_reader.specs.UpdateTexts.{UpdateState, update_step, update_from}
 use Rattle.script_reader.specs.Answers.{refusal_of, Reads}
-use Rattle.script_reader.specs.Steps.{Fails}
+use Rattle.script_reader.specs.Outcomes.{Fails}
 use Rattle.script_reader.proofs.UpdateSizes.{line_size, lines_size}
 
 refuses_at : {A B : Type 0} (n : ℕ) (e : StepError) (read : Result A ℕ) (next : A → Result B Bad) → Fails e read → Reads (Err (refusal_of n e)) (at_line n read next)
@@ -35,11 +35,11 @@ lanes_err s n line before after e first f = subst (Reads (Err (refusal_of n e)))
 
 -- ---- the input of an update
 
-pub update_ok : (wanted : Wanted) (s t : UpdateState) (n : ℕ) (line : List ℕ) (before after : List (List ℕ)) → before ≡ line ∷ after → update_step wanted s n line ≡ Ok t
+pub update_ok : (wanted : ExpectedPart) (s t : UpdateState) (n : ℕ) (line : List ℕ) (before after : List (List ℕ)) → before ≡ line ∷ after → update_step wanted s n line ≡ Ok t
     → update_from wanted s n before ≡ update_from wanted t (n + 1) after
 update_ok wanted s t n line before after first e = ap (update_from wanted s n) first ∙ ap (λ r. at_line n r (λ u. update_from wanted u (n + 1) after)) e
 
-pub update_err : (wanted : Wanted) (s : UpdateState) (n : ℕ) (line : List ℕ) (before after : List (List ℕ)) (e : StepError) → before ≡ line ∷ after → Fails e (update_step wanted s n line)
+pub update_err : (wanted : ExpectedPart) (s : UpdateState) (n : ℕ) (line : List ℕ) (before after : List (List ℕ)) (e : StepError) → before ≡ line ∷ after → Fails e (update_step wanted s n line)
     → Reads (Err (refusal_of n e)) (update_from wanted s n before)
 update_err wanted s n line before after e first f = subst (Reads (Err (refusal_of n e))) (ap (update_from wanted s n) (sym first)) (refuses_at n e _ _ f)
 

@@ -6,12 +6,12 @@ use Rattle.event_words.specs.declared.shape.Shape.{Shape}
 use Rattle.event_words.specs.declared.section.Command.{Command}
 use Rattle.event_words.specs.Valid.{IsValidShape}
 use Rattle.event_words.specs.Sections.{SectionOf, IsValidSection, AreValidCommands, IsValidCommand, NamesUnits, NamesOnlyUnits, is_submit}
-use Rattle.script_reader.specs.declared.reader.Place.{Place}
+use Rattle.script_reader.specs.declared.reader.ScriptPart.{ScriptPart}
 use Rattle.script_reader.specs.declared.step.StepError.{StepError}
 use Rattle.script_reader.specs.Codes.{◌>>=◌, taken_name, not_a_name}
 use Rattle.script_reader.specs.Names.{is_name, slot_of, with_name}
-use Rattle.script_reader.specs.Steps.{Moves}
-use Rattle.script_reader.specs.declared.reader.Place.TheVariants.{Head, Units, Boot, Lane, Finished}
+use Rattle.script_reader.specs.Outcomes.{Moves}
+use Rattle.script_reader.specs.declared.reader.ScriptPart.TheVariants.{Head, Units, Boot, Lane, Finished}
 use Rattle.script_reader.specs.Lines.{State, OpenSection, new_section, no_commands, section_of, with_command, with_submission, closed, start, next_lane}
 use Rattle.script_reader.specs.Told.{IsToldWhole, TellsWhole}
 use Rattle.script_reader.specs.Sound.{IsSound, IsSoundSection, FitsPlace, IsInSection, MayFollow, IsGoodCommand}
@@ -135,7 +135,7 @@ sound_boot s e some sound =
       place = record { some_units = some; few_lanes = omega (arith, ap length here.lanes) };
     }
 
-fits_section : (p : Place) (s : State) (new : OpenSection) → IsInSection p → FitsPlace p s → FitsPlace p (record s { section = new })
+fits_section : (p : ScriptPart) (s : State) (new : OpenSection) → IsInSection p → FitsPlace p s → FitsPlace p (record s { section = new })
 fits_section Head s new i fits = absurd i
 fits_section Units s new i fits = absurd i
 fits_section Finished s new i fits = absurd i
@@ -163,7 +163,7 @@ whole_section units open_section sound few = record { few = few; slots = sound.n
 new_is_sound : (units : ℕ) → IsSoundSection units new_section
 new_is_sound units = record { names = refl; commands = tt; units_there = tt; whole = tt }
 
-fits_next : (next : Place) (s t : State) → MayFollow next s → 1 ≤ length t.shapes → length t.lanes + 1 ≤ next_lane s.place s.lanes → next_lane s.place s.lanes ≤ 17 → FitsPlace next t
+fits_next : (next : ScriptPart) (s t : State) → MayFollow next s → 1 ≤ length t.shapes → length t.lanes + 1 ≤ next_lane s.place s.lanes → next_lane s.place s.lanes ≤ 17 → FitsPlace next t
 fits_next Head s t follows some more few = absurd follows
 fits_next Units s t follows some more few = absurd follows
 fits_next Boot s t follows some more few = absurd follows
@@ -171,7 +171,7 @@ fits_next Lane s t follows some more few = record { some_units = some; few_lanes
 fits_next Finished s t follows some more few = record { some_units = some; few_lanes = omega (arith, few, more) }
 
 -- the boot section is whole
-pub close_boot : (s : State) (next : Place) → s.place ≡ Boot → length s.section.commands ≤ 4194304 → MayFollow next s → IsSound s → IsSound (record s { boot = section_of s.section; section = new_section; place = next })
+pub close_boot : (s : State) (next : ScriptPart) → s.place ≡ Boot → length s.section.commands ≤ 4194304 → MayFollow next s → IsSound s → IsSound (record s { boot = section_of s.section; section = new_section; place = next })
 close_boot s next e few follows sound =
     let here : FitsPlace Boot s = subst (λ p. FitsPlace p s) e sound.place in
     let count : next_lane s.place s.lanes ≡ 1 = ap (λ p. next_lane p s.lanes) e in
@@ -189,7 +189,7 @@ close_boot s next e few follows sound =
     }
 
 -- a lane is whole
-pub close_lane : (s : State) (next : Place) → s.place ≡ Lane → length s.section.commands ≤ 4194304 → MayFollow next s → IsSound s
+pub close_lane : (s : State) (next : ScriptPart) → s.place ≡ Lane → length s.section.commands ≤ 4194304 → MayFollow next s → IsSound s
     → IsSound (record s { lanes = s.lanes ++ section_of s.section ∷ []; section = new_section; place = next })
 close_lane s next e few follows sound =
     let here : FitsPlace Lane s = subst (λ p. FitsPlace p s) e sound.place in
@@ -209,7 +209,7 @@ close_lane s next e few follows sound =
     }
 
 -- the open section is whole, and another stands in its place
-pub sound_closed : (p : Place) (s t : State) (next : Place) → s.place ≡ p → IsInSection p → length s.section.commands ≤ 4194304 → MayFollow next s → IsSound s
+pub sound_closed : (p : ScriptPart) (s t : State) (next : ScriptPart) → s.place ≡ p → IsInSection p → length s.section.commands ≤ 4194304 → MayFollow next s → IsSound s
     → (let step : Result State ℕ = Ok (record (closed p s) { place = next }) in step ≡ Ok t) → IsSound t
 sound_closed Lane s t next e i few follows sound step = subst IsSound (let same : record (closed Lane s) { place = next } ≡ t = cc in same) (close_lane s next e few follows sound)
 sound_closed Boot s t next e i few follows sound step = subst IsSound (let same : record (closed Boot s) { place = next } ≡ t = cc in same) (close_boot s next e few follows sound)
@@ -250,7 +250,7 @@ sound_submitted (Err e) s n slot new c name i sound good count slots submits ste
 
 -- ---- what callers learn
 
-pub units_in_section : (p : Place) (s : State) → IsInSection p → FitsPlace p s → 1 ≤ length s.shapes
+pub units_in_section : (p : ScriptPart) (s : State) → IsInSection p → FitsPlace p s → 1 ≤ length s.shapes
 units_in_section Boot s i fits = fits.some_units
 units_in_section Lane s i fits = fits.some_units
 units_in_section Head s i fits = absurd i

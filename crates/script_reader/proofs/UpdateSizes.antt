@@ -6,8 +6,8 @@ use Rattle.std.proofs.lemmas.List.{length-take-le}
 use Rattle.std.proofs.lemmas.List.Splits.{slice_split-cons_yes, slice_split-cons_no, length-slice_split}
 use Rattle.std.specs.Result.{IfOk}
 use Rattle.std.specs.List.{list_all, slice_split, onto_first}
-use Rattle.script_reader.specs.declared.update_text.Wanted.{Wanted}
-use Rattle.script_reader.specs.declared.update_text.Wanted.TheVariants.{Old, New, Polls, Lanes, Nothing, Rest}
+use Rattle.script_reader.specs.declared.update_text.ExpectedPart.{ExpectedPart}
+use Rattle.script_reader.specs.declared.update_text.ExpectedPart.TheVariants.{Old, New, Polls, Lanes, Nothing, Rest}
 use Rattle.script_reader.specs.Codes.{◌>>=◌}
 use Rattle.script_reader.specs.Text.{is_line_feed, is_plain, lines_of, words_of, without_last_line_feed}
 use Rattle.script_reader.specs.Numbers.{ranged, number_at}
@@ -71,7 +71,7 @@ ranged_within low high word =
     second true b e = e
     second false b e = absurd (let n : false ≡ true = e in cc)
 
-polls_fits : (after : Wanted) (lanes : Bool) (t : UpdateTextOf) (size n : ℕ) (line : List ℕ) → after ≡ after_polls lanes → Fits Polls t size n → IfOk (polls_step after t line) (Onward size n line)
+polls_fits : (after : ExpectedPart) (lanes : Bool) (t : UpdateTextOf) (size n : ℕ) (line : List ℕ) → after ≡ after_polls lanes → Fits Polls t size n → IfOk (polls_step after t line) (Onward size n line)
 unfolding polls_step
 polls_fits after lanes t size n line e h =
     chosen (Onward size n line) (not (is_polls_heading (words_of line))) _ _ (λ _. (omega (arith, h.0), h.1))
@@ -107,7 +107,7 @@ rest_fits t size n line h =
 pub step_fits : (lanes : Bool) (s : UpdateState) (size n : ℕ) (line : List ℕ) → FitsState s size n → IfOk (update_step (after_polls lanes) s n line) (Onward size n line)
 step_fits lanes s size n line h = by s.wanted s.text h
   where
-    by : (w : Wanted) (t : UpdateTextOf) → Fits w t size n → IfOk (wanted_step w (after_polls lanes) t n line) (Onward size n line)
+    by : (w : ExpectedPart) (t : UpdateTextOf) → Fits w t size n → IfOk (wanted_step w (after_polls lanes) t n line) (Onward size n line)
     by Old t h = old_fits t size n line h
     by New t h = new_fits t size n line h
     by Polls t h = polls_fits (after_polls lanes) lanes t size n line refl h
@@ -153,7 +153,7 @@ lines_size text = by (length text == 0)
 abbrev pub Fitted : ℕ → List (List ℕ) → UpdateState → ℕ → Type 0
 Fitted size left s n = (sum_by line_size left ≤ size) × FitsState s (size - sum_by line_size left) n
 
-pub onward : (lanes : Bool) (after : Wanted) (s t : UpdateState) (size n : ℕ) (line : List ℕ) (before left : List (List ℕ)) → after ≡ after_polls lanes → before ≡ line ∷ left → Fitted size before s n
+pub onward : (lanes : Bool) (after : ExpectedPart) (s t : UpdateState) (size n : ℕ) (line : List ℕ) (before left : List (List ℕ)) → after ≡ after_polls lanes → before ≡ line ∷ left → Fitted size before s n
     → update_step after s n line ≡ Ok t → Fitted size left t (n + 1)
 onward lanes after s t size n line before left a first fits e =
     let sum : sum_by line_size before ≡ line_size line + sum_by line_size left = ap (sum_by line_size) first ∙ sum_by-cons line_size line left in

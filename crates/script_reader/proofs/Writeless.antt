@@ -3,9 +3,9 @@ use Rattle.std.proofs.Common.{◌≡◌, ℕ, ◌==◌, ◌&&◌, ◌||◌, nat_
 use Rattle.std.specs.Result.{IfOk}
 use Rattle.std.specs.List.{list_all}
 use Rattle.event_words.specs.declared.section.Command.{Command}
-use Rattle.event_words.specs.Sections.{IsNoWrite, WritesNothing}
-use Rattle.script_reader.specs.declared.reader.Place.{Place}
-use Rattle.script_reader.specs.declared.reader.Place.TheVariants.{Head, Units, Boot, Lane, Finished}
+use Rattle.event_words.specs.Sections.{IsNoRegisterWrite, HasNoRegisterWrites}
+use Rattle.script_reader.specs.declared.reader.ScriptPart.{ScriptPart}
+use Rattle.script_reader.specs.declared.reader.ScriptPart.TheVariants.{Head, Units, Boot, Lane, Finished}
 use Rattle.script_reader.specs.Codes.{◌>>=◌}
 use Rattle.script_reader.specs.Text.{is_plain, words_of}
 use Rattle.script_reader.specs.Numbers.{number_at}
@@ -37,49 +37,49 @@ chosen_not Q false r t off there = there
 
 -- ---- commands
 
-read_writeless : (units : ℕ) (words : List (List ℕ)) → IfOk (read_at units words) IsNoWrite
+read_writeless : (units : ℕ) (words : List (List ℕ)) → IfOk (read_at units words) IsNoRegisterWrite
 unfolding read_at
-read_writeless units words = chosen IsNoWrite (not (length words == 3)) _ _ tt (onward IsNoWrite (unit_at units (word_at words 1)) _ (λ unit. onward IsNoWrite (index_at (word_at words 2)) _ (λ index. tt)))
+read_writeless units words = chosen IsNoRegisterWrite (not (length words == 3)) _ _ tt (onward IsNoRegisterWrite (unit_at units (word_at words 1)) _ (λ unit. onward IsNoRegisterWrite (index_at (word_at words 2)) _ (λ index. tt)))
 
-submit_writeless : (units slot : ℕ) (words : List (List ℕ)) → IfOk (submit_at units slot words) IsNoWrite
+submit_writeless : (units slot : ℕ) (words : List (List ℕ)) → IfOk (submit_at units slot words) IsNoRegisterWrite
 unfolding submit_at
-submit_writeless units slot words = chosen IsNoWrite (not (length words == 8 && is_word_at words 6 (codes "as"))) _ _ tt
-    (onward IsNoWrite (unit_at units (word_at words 1)) _ (λ unit. onward IsNoWrite (access_at words 2) _ (λ access. tt)))
+submit_writeless units slot words = chosen IsNoRegisterWrite (not (length words == 8 && is_word_at words 6 (codes "as"))) _ _ tt
+    (onward IsNoRegisterWrite (unit_at units (word_at words 1)) _ (λ unit. onward IsNoRegisterWrite (access_at words 2) _ (λ access. tt)))
 
-judge_writeless : (names words : List (List ℕ)) → IfOk (judge_at names words) IsNoWrite
+judge_writeless : (names words : List (List ℕ)) → IfOk (judge_at names words) IsNoRegisterWrite
 unfolding judge_at
-judge_writeless names words = chosen IsNoWrite (length words == 2) _ _ (onward IsNoWrite (slot_at names (word_at words 1)) _ (λ slot. tt)) tt
+judge_writeless names words = chosen IsNoRegisterWrite (length words == 2) _ _ (onward IsNoRegisterWrite (slot_at names (word_at words 1)) _ (λ slot. tt)) tt
 
-settle_writeless : (names words : List (List ℕ)) → IfOk (settle_at names words) IsNoWrite
+settle_writeless : (names words : List (List ℕ)) → IfOk (settle_at names words) IsNoRegisterWrite
 unfolding settle_at
-settle_writeless names words = chosen IsNoWrite (not (length words == 4 && is_word_at words 2 (codes "max"))) _ _ tt
-    (onward IsNoWrite (slot_at names (word_at words 1)) _ (λ slot. onward IsNoWrite (max_at (word_at words 3)) _ (λ max. tt)))
+settle_writeless names words = chosen IsNoRegisterWrite (not (length words == 4 && is_word_at words 2 (codes "max"))) _ _ tt
+    (onward IsNoRegisterWrite (slot_at names (word_at words 1)) _ (λ slot. onward IsNoRegisterWrite (max_at (word_at words 3)) _ (λ max. tt)))
 
-until_writeless : (units : ℕ) (words : List (List ℕ)) → IfOk (until_at units words) IsNoWrite
+until_writeless : (units : ℕ) (words : List (List ℕ)) → IfOk (until_at units words) IsNoRegisterWrite
 unfolding until_at
-until_writeless units words = chosen IsNoWrite (not (length words == 7 && is_word_at words 5 (codes "max"))) _ _ tt
-    (onward IsNoWrite (unit_at units (word_at words 1)) _ (λ unit. onward IsNoWrite (index_at (word_at words 2)) _ (λ index. onward IsNoWrite (value_at (word_at words 3)) _ (λ mask.
-    onward IsNoWrite (value_at (word_at words 4)) _ (λ value. onward IsNoWrite (max_at (word_at words 6)) _ (λ max. tt))))))
+until_writeless units words = chosen IsNoRegisterWrite (not (length words == 7 && is_word_at words 5 (codes "max"))) _ _ tt
+    (onward IsNoRegisterWrite (unit_at units (word_at words 1)) _ (λ unit. onward IsNoRegisterWrite (index_at (word_at words 2)) _ (λ index. onward IsNoRegisterWrite (value_at (word_at words 3)) _ (λ mask.
+    onward IsNoRegisterWrite (value_at (word_at words 4)) _ (λ value. onward IsNoRegisterWrite (max_at (word_at words 6)) _ (λ max. tt))))))
 
-through_writeless : (units : ℕ) (words : List (List ℕ)) → IfOk (through_at units words) IsNoWrite
+through_writeless : (units : ℕ) (words : List (List ℕ)) → IfOk (through_at units words) IsNoRegisterWrite
 unfolding through_at
-through_writeless units words = chosen IsNoWrite (not ((nat_le 8 (length words) && nat_le (length words) 11) && is_word_at words (length words - 2) (codes "max"))) _ _ tt
-    (onward IsNoWrite (stages_at units words (length words - 7)) _ (λ stages. onward IsNoWrite (access_at words (length words - 6)) _ (λ access. onward IsNoWrite (max_at (word_at words (length words - 1))) _ (λ max. tt))))
+through_writeless units words = chosen IsNoRegisterWrite (not ((nat_le 8 (length words) && nat_le (length words) 11) && is_word_at words (length words - 2) (codes "max"))) _ _ tt
+    (onward IsNoRegisterWrite (stages_at units words (length words - 7)) _ (λ stages. onward IsNoRegisterWrite (access_at words (length words - 6)) _ (λ access. onward IsNoRegisterWrite (max_at (word_at words (length words - 1))) _ (λ max. tt))))
 
-command_writeless : (units : ℕ) (names words : List (List ℕ)) → is_word_at words 0 (codes "w") ≡ false → IfOk (command_at units names words) IsNoWrite
+command_writeless : (units : ℕ) (names words : List (List ℕ)) → is_word_at words 0 (codes "w") ≡ false → IfOk (command_at units names words) IsNoRegisterWrite
 unfolding command_at
 command_writeless units names words other =
-    chosen_not IsNoWrite (is_word_at words 0 (codes "w")) (write_at units words) _ other
-    (chosen IsNoWrite (is_word_at words 0 (codes "r")) _ _ (read_writeless units words)
-    (chosen IsNoWrite (is_word_at words 0 (codes "j")) _ _ (judge_writeless names words)
-    (chosen IsNoWrite (is_word_at words 0 (codes "settle")) _ _ (settle_writeless names words)
-    (chosen IsNoWrite (is_word_at words 0 (codes "until")) _ _ (until_writeless units words)
-    (chosen IsNoWrite (is_word_at words 0 (codes "through")) _ _ (through_writeless units words) tt)))))
+    chosen_not IsNoRegisterWrite (is_word_at words 0 (codes "w")) (write_at units words) _ other
+    (chosen IsNoRegisterWrite (is_word_at words 0 (codes "r")) _ _ (read_writeless units words)
+    (chosen IsNoRegisterWrite (is_word_at words 0 (codes "j")) _ _ (judge_writeless names words)
+    (chosen IsNoRegisterWrite (is_word_at words 0 (codes "settle")) _ _ (settle_writeless names words)
+    (chosen IsNoRegisterWrite (is_word_at words 0 (codes "until")) _ _ (until_writeless units words)
+    (chosen IsNoRegisterWrite (is_word_at words 0 (codes "through")) _ _ (through_writeless units words) tt)))))
 
 -- ---- kinds of lines
 
-closed_keeps : (p q : Place) (s : State) → IsOpen p → IsOpen q → IsLiveState s → IsLiveState (record (closed p s) { place = q })
-closed_keeps Lane q s here there live = record { place = there; shapes = live.shapes; lanes = all_push WritesNothing s.lanes _ live.lanes live.section; section = tt }
+closed_keeps : (p q : ScriptPart) (s : State) → IsOpen p → IsOpen q → IsLiveState s → IsLiveState (record (closed p s) { place = q })
+closed_keeps Lane q s here there live = record { place = there; shapes = live.shapes; lanes = all_push HasNoRegisterWrites s.lanes _ live.lanes live.section; section = tt }
 closed_keeps Head q s here there live = absurd here
 closed_keeps Units q s here there live = absurd here
 closed_keeps Boot q s here there live = absurd here
@@ -95,19 +95,19 @@ lane_keeps s words live = chosen IsLiveState (nat_lt 16 (next_lane s.place s.lan
     (chosen IsLiveState (length words == 2) _ _ (onward IsLiveState (number_at (word_at words 1)) _ (λ n. closed_keeps s.place Lane s live.place tt live)) tt)
 
 -- a command more in the open section
-pushed : (s : State) (c : Command) (names : List (List ℕ)) → IsLiveState s → IsNoWrite c → IsLiveState (record s { section = record { commands = s.section.commands ++ c ∷ []; names = names } })
-pushed s c names live here = record { place = live.place; shapes = live.shapes; lanes = live.lanes; section = all_push IsNoWrite s.section.commands c live.section here }
+pushed : (s : State) (c : Command) (names : List (List ℕ)) → IsLiveState s → IsNoRegisterWrite c → IsLiveState (record s { section = record { commands = s.section.commands ++ c ∷ []; names = names } })
+pushed s c names live here = record { place = live.place; shapes = live.shapes; lanes = live.lanes; section = all_push IsNoRegisterWrite s.section.commands c live.section here }
 
 submit_keeps : (s : State) (words : List (List ℕ)) → IsLiveState s → IfOk (submit_step s words) IsLiveState
 unfolding submit_step
-submit_keeps s words live = bound IsNoWrite IsLiveState (submit_at (length s.shapes) (length s.section.names) words) _ (submit_writeless (length s.shapes) (length s.section.names) words)
+submit_keeps s words live = bound IsNoRegisterWrite IsLiveState (submit_at (length s.shapes) (length s.section.names) words) _ (submit_writeless (length s.shapes) (length s.section.names) words)
     (λ c here. bound (λ (o : OpenSection). IsLiveState (record s { section = o })) IsLiveState (with_submission s.section c (word_at words 7)) _
     (onward (λ (o : OpenSection). IsLiveState (record s { section = o })) (with_name s.section.names (word_at words 7)) _ (λ names. pushed s c names live here))
     (λ o kept. kept))
 
 command_keeps : (s : State) (words : List (List ℕ)) → is_word_at words 0 (codes "w") ≡ false → IsLiveState s → IfOk (command_step s words) IsLiveState
 unfolding command_step
-command_keeps s words other live = bound IsNoWrite IsLiveState (command_at (length s.shapes) s.section.names words) _ (command_writeless (length s.shapes) s.section.names words other)
+command_keeps s words other live = bound IsNoRegisterWrite IsLiveState (command_at (length s.shapes) s.section.names words) _ (command_writeless (length s.shapes) s.section.names words other)
     (λ c here. pushed s c s.section.names live here)
 
 -- ---- any line
@@ -118,7 +118,7 @@ section_keeps s words other live = chosen IsLiveState (is_word_at words 0 (codes
     (chosen IsLiveState (is_word_at words 0 (codes "end")) _ _ (end_keeps s words live)
     (chosen IsLiveState (is_word_at words 0 (codes "t")) _ _ (submit_keeps s words live) (command_keeps s words other live)))
 
-place_keeps : (p : Place) (s : State) (words : List (List ℕ)) → IsOpen p → is_word_at words 0 (codes "w") ≡ false → IsLiveState s → IfOk (place_step p s words) IsLiveState
+place_keeps : (p : ScriptPart) (s : State) (words : List (List ℕ)) → IsOpen p → is_word_at words 0 (codes "w") ≡ false → IsLiveState s → IfOk (place_step p s words) IsLiveState
 place_keeps Head s words here other live = absurd here
 place_keeps Units s words here other live = absurd here
 place_keeps Boot s words here other live = absurd here

@@ -11,8 +11,8 @@ use Rattle.event_words.specs.declared.section.Command.{Command}
 use Rattle.event_words.specs.declared.section.Command.TheVariants.{Write, Read, Submit, Judge, Settle, Until, Through}
 use Rattle.event_words.specs.Valid.{IsValidAccess}
 use Rattle.event_words.specs.Sections.{SectionOf, IsValidSection, IsValidCommand, AreValidCommands, NamesUnits, NamesOnlyUnits, is_submit}
-use Rattle.script_reader.specs.declared.reader.Place.{Place}
-use Rattle.script_reader.specs.declared.reader.Place.TheVariants.{Head, Units, Boot, Lane, Finished}
+use Rattle.script_reader.specs.declared.reader.ScriptPart.{ScriptPart}
+use Rattle.script_reader.specs.declared.reader.ScriptPart.TheVariants.{Head, Units, Boot, Lane, Finished}
 use Rattle.script_reader.specs.declared.script.ScriptError.TheVariants.{TooManyEvents}
 use Rattle.script_reader.specs.Codes.{◌>>=◌, misplaced}
 use Rattle.script_reader.specs.Text.{lines_of}
@@ -38,10 +38,10 @@ use Rattle.script_reader.proofs.WrittenUnits.{units_at, units_read}
 abbrev open_at : List Command → ℕ → OpenSection
 open_at commands k = record { commands = commands; names = slot_names k }
 
-abbrev section_at : Place → List Shape → SectionOf → List SectionOf → OpenSection → State
+abbrev section_at : ScriptPart → List Shape → SectionOf → List SectionOf → OpenSection → State
 section_at p shapes boot lanes o = record { place = p; shapes = shapes; boot = boot; lanes = lanes; section = o }
 
-in_section : (p : Place) (s : State) (words : List (List ℕ)) → IsInSection p → place_step p s words ≡ section_step s words
+in_section : (p : ScriptPart) (s : State) (words : List (List ℕ)) → IsInSection p → place_step p s words ≡ section_step s words
 in_section Head s words i = absurd i
 in_section Units s words i = absurd i
 in_section Boot s words i = refl
@@ -58,14 +58,14 @@ plain_command s (Settle slot max) other = refl
 plain_command s (Until unit index mask value max) other = refl
 plain_command s (Through stages access max) other = refl
 
-other_step : (p : Place) (shapes : List Shape) (boot : SectionOf) (lanes : List SectionOf) (done : List Command) (k : ℕ) (c : Command) → IsOther c → k ≤ 10 ^ 7 → IsValidCommand k c → NamesUnits (length shapes) c → IsToldWhole c
+other_step : (p : ScriptPart) (shapes : List Shape) (boot : SectionOf) (lanes : List SectionOf) (done : List Command) (k : ℕ) (c : Command) → IsOther c → k ≤ 10 ^ 7 → IsValidCommand k c → NamesUnits (length shapes) c → IsToldWhole c
     → section_step (section_at p shapes boot lanes (open_at done k)) (command_words c) ≡ Ok (section_at p shapes boot lanes (open_at (done ++ c ∷ []) k))
 unfolding command_step
 other_step p shapes boot lanes done k c other few valid there whole =
     plain_command (section_at p shapes boot lanes (open_at done k)) c other
     ∙ ap (λ r. r >>= λ command. Ok (section_at p shapes boot lanes (open_at (done ++ command ∷ []) k))) (other_read (length shapes) k c other few valid there whole)
 
-submission_step : (p : Place) (shapes : List Shape) (boot : SectionOf) (lanes : List SectionOf) (done : List Command) (k unit : ℕ) (access : Access) → k < 10 ^ 7 → unit < 4 → IsValidAccess access → unit < length shapes
+submission_step : (p : ScriptPart) (shapes : List Shape) (boot : SectionOf) (lanes : List SectionOf) (done : List Command) (k unit : ℕ) (access : Access) → k < 10 ^ 7 → unit < 4 → IsValidAccess access → unit < length shapes
     → section_step (section_at p shapes boot lanes (open_at done k)) (command_words (Submit unit access k)) ≡ Ok (section_at p shapes boot lanes (open_at (done ++ Submit unit access k ∷ []) (suc k)))
 unfolding section_step submit_step
 submission_step p shapes boot lanes done k unit access few small valid there =
@@ -84,7 +84,7 @@ names_counted k [] = omega arith
 names_counted k (c ∷ cs) = names_counted (if is_submit c then k + 1 else k) cs ∙ omega (arith, counted (is_submit c) k, count_cons c cs)
 
 -- one command, whatever it is
-any_step : (p : Place) (shapes : List Shape) (boot : SectionOf) (lanes : List SectionOf) (done : List Command) (k : ℕ) (c : Command) → k < 10 ^ 7 → IsValidCommand k c → NamesUnits (length shapes) c → IsToldWhole c
+any_step : (p : ScriptPart) (shapes : List Shape) (boot : SectionOf) (lanes : List SectionOf) (done : List Command) (k : ℕ) (c : Command) → k < 10 ^ 7 → IsValidCommand k c → NamesUnits (length shapes) c → IsToldWhole c
     → section_step (section_at p shapes boot lanes (open_at done k)) (command_words c) ≡ Ok (section_at p shapes boot lanes (open_at (done ++ c ∷ []) (if is_submit c then k + 1 else k)))
 any_step p shapes boot lanes done k (Write unit index value) few valid there whole = other_step p shapes boot lanes done k (Write unit index value) tt (omega (arith, few)) valid there whole
 any_step p shapes boot lanes done k (Read unit index) few valid there whole = other_step p shapes boot lanes done k (Read unit index) tt (omega (arith, few)) valid there whole
@@ -112,7 +112,7 @@ one_at_most true = omega arith
 one_at_most false = omega arith
 
 -- The lines of commands take the reading on to where they are read, whatever stands after them.
-commands_read : (p : Place) (shapes : List Shape) (boot : SectionOf) (lanes : List SectionOf) (done cs : List Command) (k n : ℕ) (rest : List ℕ) (answer : Result ScriptOf Bad) → IsInSection p → k + length cs < 10 ^ 7
+commands_read : (p : ScriptPart) (shapes : List Shape) (boot : SectionOf) (lanes : List SectionOf) (done cs : List Command) (k n : ℕ) (rest : List ℕ) (answer : Result ScriptOf Bad) → IsInSection p → k + length cs < 10 ^ 7
     → AreValidCommands k cs → AllByRecursion (NamesUnits (length shapes)) cs → AllByRecursion IsToldWhole cs
     → ((m : ℕ) → lines_from (section_at p shapes boot lanes (open_at (done ++ cs) (names_after k cs))) m (lines_of rest) ≡ answer)
     → lines_from (section_at p shapes boot lanes (open_at done k)) n (lines_of (command_texts cs ++ rest)) ≡ answer
@@ -145,7 +145,7 @@ end_step_read : (s : State) → section_step s (codes "end" ∷ []) ≡ Ok (reco
 unfolding section_step end_step
 end_step_read s = refl
 
-ended_there : (p : Place) (s : State) (n : ℕ) → IsInSection p → lines_from (record (closed p s) { place = Finished }) n (lines_of []) ≡ Ok (record { shapes = s.shapes; boot = (closed p s).boot; lanes = (closed p s).lanes })
+ended_there : (p : ScriptPart) (s : State) (n : ℕ) → IsInSection p → lines_from (record (closed p s) { place = Finished }) n (lines_of []) ≡ Ok (record { shapes = s.shapes; boot = (closed p s).boot; lanes = (closed p s).lanes })
 ended_there Head s n i = absurd i
 ended_there Units s n i = absurd i
 ended_there Boot s n i = refl
@@ -194,7 +194,7 @@ abbrev AreReadable : ℕ → List SectionOf → Type 0
 AreReadable units lanes = AllByRecursion (IsReadableSection units) lanes
 
 -- The lines of a section's commands, read in a place where a section is open.
-section_read : (p : Place) (shapes : List Shape) (boot : SectionOf) (lanes : List SectionOf) (section : SectionOf) (n : ℕ) (rest : List ℕ) (answer : Result ScriptOf Bad) → IsInSection p → IsReadableSection (length shapes) section
+section_read : (p : ScriptPart) (shapes : List Shape) (boot : SectionOf) (lanes : List SectionOf) (section : SectionOf) (n : ℕ) (rest : List ℕ) (answer : Result ScriptOf Bad) → IsInSection p → IsReadableSection (length shapes) section
     → ((m : ℕ) → lines_from (section_at p shapes boot lanes (open_of section)) m (lines_of rest) ≡ answer)
     → lines_from (section_at p shapes boot lanes new_section) n (lines_of (command_texts section.commands ++ rest)) ≡ answer
 section_read p shapes boot lanes section n rest answer i readable next =

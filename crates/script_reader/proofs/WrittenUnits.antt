@@ -11,7 +11,7 @@ use Rattle.std.specs.Str.{bytes_eq}
 use Rattle.std.specs.Str.Parse.{AllDigits}
 use Rattle.event_words.specs.declared.shape.Shape.{Shape}
 use Rattle.event_words.specs.Valid.{IsValidShape}
-use Rattle.script_reader.specs.declared.reader.Place.TheVariants.{Units}
+use Rattle.script_reader.specs.declared.reader.ScriptPart.TheVariants.{Units}
 use Rattle.script_reader.specs.Codes.{◌>>=◌, misplaced}
 use Rattle.script_reader.specs.Text.{lines_of}
 use Rattle.script_reader.specs.Numbers.{ranged}

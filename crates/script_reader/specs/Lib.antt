@@ -9,7 +9,7 @@ pub mod Lines
 pub mod Scripts
 pub mod Told
 pub mod Sound
-pub mod Steps
+pub mod Outcomes
 pub mod Answers
 pub mod LiveLanes
 pub mod Printed

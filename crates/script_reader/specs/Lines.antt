@@ -5,8 +5,8 @@ use Rattle.std.specs.List.{list_all}
 use Rattle.event_words.specs.declared.shape.Shape.{Shape}
 use Rattle.event_words.specs.declared.section.Command.{Command}
 use Rattle.event_words.specs.Sections.{SectionOf}
-use Rattle.script_reader.specs.declared.reader.Place.{Place}
-use Rattle.script_reader.specs.declared.reader.Place.TheVariants.{Head, Units, Boot, Lane, Finished}
+use Rattle.script_reader.specs.declared.reader.ScriptPart.{ScriptPart}
+use Rattle.script_reader.specs.declared.reader.ScriptPart.TheVariants.{Head, Units, Boot, Lane, Finished}
 use Rattle.script_reader.specs.Codes.{◌>>=◌, not_plain, no_head, misplaced, misshapen, out_of_range}
 use Rattle.script_reader.specs.Text.{is_plain, words_of}
 use Rattle.script_reader.specs.Numbers.{number_at}
@@ -36,7 +36,7 @@ with_submission open_section command name =
 
 -- what the lines so far gave, and by the place which lines may come next
 pub record State : Type 0 where
-  pub place : Place
+  pub place : ScriptPart
   pub shapes : List Shape
   pub boot : SectionOf
   pub lanes : List SectionOf
@@ -57,7 +57,7 @@ unfoldable pub boot_step : State → List (List ℕ) → Result State ℕ
 boot_step s words = if length words == 1 then Ok (record s { place = Boot }) else Err misshapen
 
 -- the open section is whole, and another stands in its place
-abbrev pub closed : Place → State → State
+abbrev pub closed : ScriptPart → State → State
 closed Lane s = record s { lanes = s.lanes ++ section_of s.section ∷ []; section = new_section }
 closed _ s = record s { boot = section_of s.section; section = new_section }
 
@@ -65,7 +65,7 @@ unfoldable pub end_step : State → List (List ℕ) → Result State ℕ
 end_step s words = if length words == 1 then Ok (record (closed s.place s) { place = Finished }) else Err misshapen
 
 -- the number of the lane that would come next
-abbrev pub next_lane : Place → List SectionOf → ℕ
+abbrev pub next_lane : ScriptPart → List SectionOf → ℕ
 next_lane Lane lanes = length lanes + 2
 next_lane _ lanes = 1
 
@@ -107,7 +107,7 @@ section_step s words =
     else (if is_word_at words 0 (codes "t") then submit_step s words
     else command_step s words))
 
-abbrev pub place_step : Place → State → List (List ℕ) → Result State ℕ
+abbrev pub place_step : ScriptPart → State → List (List ℕ) → Result State ℕ
 place_step Head s words = head_step s words
 place_step Units s words = units_step s words
 place_step Boot s words = section_step s words

@@ -8,9 +8,9 @@ use Rattle.std.specs.declared.alloc.Global.{Global}
 use Rattle.std.specs.declared.result.Result.{Result}
 use Rattle.std.specs.List.{list_all, AllByRecursion}
 use Rattle.event_words.specs.declared.shape.Shape.{Shape}
-use Rattle.event_words.specs.Sections.{SectionOf, IsValidSection, NamesOnlyUnits, IsNoWrite, WritesNothing}
-use Rattle.script_reader.specs.declared.reader.Place.{Place}
-use Rattle.script_reader.specs.declared.reader.Place.TheVariants.{Lane, Finished}
+use Rattle.event_words.specs.Sections.{SectionOf, IsValidSection, NamesOnlyUnits, IsNoRegisterWrite, HasNoRegisterWrites}
+use Rattle.script_reader.specs.declared.reader.ScriptPart.{ScriptPart}
+use Rattle.script_reader.specs.declared.reader.ScriptPart.TheVariants.{Lane, Finished}
 use Rattle.script_reader.specs.Codes.{not_plain, misplaced}
 use Rattle.script_reader.specs.Text.{is_plain, lines_of, words_of}
 use Rattle.script_reader.specs.Words.{is_word_at}
@@ -42,7 +42,7 @@ unfoldable pub lanes_line_step : State → List ℕ → Result State ℕ
 lanes_line_step s line = if list_all is_plain line then lanes_words_step s (words_of line) else Err not_plain
 
 -- the lanes after lane 1, where `end` stood; `n` is the number of the last line plus 1
-abbrev pub lanes_end : Place → State → ℕ → Result (List SectionOf) Bad
+abbrev pub lanes_end : ScriptPart → State → ℕ → Result (List SectionOf) Bad
 lanes_end Finished s n = Ok (drop 1 s.lanes)
 lanes_end _ s n = Err (record { line = n; code = misplaced })
 
@@ -63,7 +63,7 @@ ReadsLanes (Err error) read = Reads (Err error) read
 -- ---- what every such lane has
 
 -- lanes are being read, or `end` stood
-abbrev pub IsOpen : Place → Type 0
+abbrev pub IsOpen : ScriptPart → Type 0
 IsOpen Lane = Unit {0}
 IsOpen Finished = Unit {0}
 IsOpen _ = ⊥
@@ -72,12 +72,12 @@ IsOpen _ = ⊥
 pub record IsLiveState (s : State) : Type 0 where
   pub place : IsOpen s.place
   pub shapes : length s.shapes ≡ 1
-  pub lanes : AllByRecursion WritesNothing s.lanes
-  pub section : AllByRecursion IsNoWrite s.section.commands
+  pub lanes : AllByRecursion HasNoRegisterWrites s.lanes
+  pub section : AllByRecursion IsNoRegisterWrite s.section.commands
 
 -- Valid sections that name unit 0 alone and write no register.
 pub record AreLiveLanes (lanes : List SectionOf) : Type 0 where
   pub few : length lanes ≤ 15
   pub valid : AllByRecursion IsValidSection lanes
   pub units_there : AllByRecursion (NamesOnlyUnits 1) lanes
-  pub write_nothing : AllByRecursion WritesNothing lanes
+  pub write_nothing : AllByRecursion HasNoRegisterWrites lanes

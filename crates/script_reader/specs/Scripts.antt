@@ -4,9 +4,9 @@ use Rattle.std.specs.declared.result.Result.{Result}
 use Rattle.std.specs.List.{AllByRecursion}
 use Rattle.event_words.specs.declared.shape.Shape.{Shape}
 use Rattle.event_words.specs.Valid.{IsValidShape}
-use Rattle.event_words.specs.Sections.{SectionOf, IsValidSection, NamesOnlyUnits, events_of}
-use Rattle.script_reader.specs.declared.reader.Place.{Place}
-use Rattle.script_reader.specs.declared.reader.Place.TheVariants.{Head, Finished}
+use Rattle.event_words.specs.Sections.{SectionOf, IsValidSection, NamesOnlyUnits, most_section_events}
+use Rattle.script_reader.specs.declared.reader.ScriptPart.{ScriptPart}
+use Rattle.script_reader.specs.declared.reader.ScriptPart.TheVariants.{Head, Finished}
 use Rattle.script_reader.specs.Codes.{no_head, misplaced}
 use Rattle.script_reader.specs.Text.{lines_of}
 use Rattle.script_reader.specs.Lines.{State, start, line_step}
@@ -23,7 +23,7 @@ pub record Bad : Type 0 where
   pub code : ℕ
 
 -- the end of the lines, where `n` is the number of lines plus 1
-abbrev pub end_of : Place → State → ℕ → Result ScriptOf Bad
+abbrev pub end_of : ScriptPart → State → ℕ → Result ScriptOf Bad
 end_of Head s n = Err (record { line = n; code = no_head })
 end_of Finished s n = Ok (record { shapes = s.shapes; boot = s.boot; lanes = s.lanes })
 end_of _ s n = Err (record { line = n; code = misplaced })
@@ -46,11 +46,11 @@ script_at bytes = lines_from start 1 (lines_of bytes)
 -- the most events of a section, at least `n`
 abbrev pub most_from : ℕ → List SectionOf → ℕ
 most_from n [] = n
-most_from n (section ∷ sections) = most_from (max n (events_of section)) sections
+most_from n (section ∷ sections) = most_from (max n (most_section_events section)) sections
 
 -- The most events of one section, at least 1, for the boot section and for each lane.
 abbrev pub need_of : ScriptOf → ℕ
-need_of script = (length script.lanes + 1) * most_from (max 1 (events_of script.boot)) script.lanes
+need_of script = (length script.lanes + 1) * most_from (max 1 (most_section_events script.boot)) script.lanes
 
 -- ---- what every script has
 

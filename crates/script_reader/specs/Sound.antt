@@ -5,8 +5,8 @@ use Rattle.event_words.specs.declared.section.Command.{Command}
 use Rattle.event_words.specs.declared.section.Stages.{Stages}
 use Rattle.event_words.specs.Valid.{IsValidShape}
 use Rattle.event_words.specs.Sections.{IsValidSection, IsValidStages, IsValidCommand, AreValidCommands, NamesUnits, NamesOnlyUnits, IsBelow, stage_units, is_submit}
-use Rattle.script_reader.specs.declared.reader.Place.{Place}
-use Rattle.script_reader.specs.declared.reader.Place.TheVariants.{Head, Units, Boot, Lane, Finished}
+use Rattle.script_reader.specs.declared.reader.ScriptPart.{ScriptPart}
+use Rattle.script_reader.specs.declared.reader.ScriptPart.TheVariants.{Head, Units, Boot, Lane, Finished}
 use Rattle.script_reader.specs.Told.{HasNoSpareUnits, IsToldWhole, TellsWhole}
 use Rattle.script_reader.specs.Lines.{State, OpenSection, new_section, no_commands, next_lane}
 
@@ -39,7 +39,7 @@ pub record HasLanes (most : ℕ) (s : State) : Type 0 where
   pub few_lanes : length s.lanes ≤ most
 
 -- how many lanes are whole: the open section may be one more
-abbrev pub FitsPlace : Place → State → Type 0
+abbrev pub FitsPlace : ScriptPart → State → Type 0
 FitsPlace Head s = IsBlank s
 FitsPlace Units s = IsBlank s
 FitsPlace Boot s = HasLanes 0 s
@@ -61,13 +61,13 @@ pub record IsSound (s : State) : Type 0 where
 -- ---- where a line may stand
 
 -- a section is open
-abbrev pub IsInSection : Place → Type 0
+abbrev pub IsInSection : ScriptPart → Type 0
 IsInSection Boot = Unit {0}
 IsInSection Lane = Unit {0}
 IsInSection _ = ⊥
 
 -- the place after the end of a section
-abbrev pub MayFollow : Place → State → Type 0
+abbrev pub MayFollow : ScriptPart → State → Type 0
 MayFollow Lane s = next_lane s.place s.lanes ≤ 16
 MayFollow Finished s = Unit {0}
 MayFollow _ s = ⊥

@@ -1,7 +1,7 @@
 -- How long the parts of an update's input are, and in which lines they stand.
 use Rattle.std.specs.Prelude.{◌≡◌, ℕ, ◌+◌, ◌-◌, ◌≤◌, [], length}
-use Rattle.script_reader.specs.declared.update_text.Wanted.{Wanted}
-use Rattle.script_reader.specs.declared.update_text.Wanted.TheVariants.{Old, New, Polls, Lanes, Nothing, Rest}
+use Rattle.script_reader.specs.declared.update_text.ExpectedPart.{ExpectedPart}
+use Rattle.script_reader.specs.declared.update_text.ExpectedPart.TheVariants.{Old, New, Polls, Lanes, Nothing, Rest}
 use Rattle.script_reader.specs.UpdateTexts.{UpdateTextOf, UpdateState}
 
 abbrev pub HasNoLanes : UpdateTextOf → Type 0
@@ -11,7 +11,7 @@ abbrev pub HasPolls : UpdateTextOf → Type 0
 HasPolls t = (1 ≤ t.polls) × (t.polls ≤ 4096)
 
 -- The lines before line n have `size` bytes, where each has one more for its end.
-abbrev pub Fits : Wanted → UpdateTextOf → ℕ → ℕ → Type 0
+abbrev pub Fits : ExpectedPart → UpdateTextOf → ℕ → ℕ → Type 0
 Fits Old t size n = (n ≤ size + 1) × HasNoLanes t
 Fits New t size n = (n ≤ size) × HasNoLanes t
 Fits Polls t size n = (n + 1 ≤ size) × HasNoLanes t

@@ -5,8 +5,8 @@
 use Rattle.std.specs.Prelude.{ℕ, ◌+◌, ◌&&◌, ◌==◌, not, Bool, if◌then◌else◌, List, [], ◌∷◌, ◌++◌, length, codes, Ok, Err}
 use Rattle.std.specs.declared.result.Result.{Result}
 use Rattle.std.specs.List.{list_all}
-use Rattle.script_reader.specs.declared.update_text.Wanted.{Wanted}
-use Rattle.script_reader.specs.declared.update_text.Wanted.TheVariants.{Old, New, Polls, Lanes, Nothing, Rest}
+use Rattle.script_reader.specs.declared.update_text.ExpectedPart.{ExpectedPart}
+use Rattle.script_reader.specs.declared.update_text.ExpectedPart.TheVariants.{Old, New, Polls, Lanes, Nothing, Rest}
 use Rattle.script_reader.specs.Codes.{◌>>=◌, not_plain, no_head, misplaced}
 use Rattle.script_reader.specs.Text.{is_plain, lines_of, words_of}
 use Rattle.script_reader.specs.Numbers.{ranged}
@@ -25,7 +25,7 @@ pub record UpdateTextOf : Type 0 where
 
 -- what the lines so far gave, and which heading is wanted next
 pub record UpdateState : Type 0 where
-  pub wanted : Wanted
+  pub wanted : ExpectedPart
   pub text : UpdateTextOf
 
 -- ---- headings
@@ -56,7 +56,7 @@ new_step t line =
     else Ok (record { wanted = New; text = record t { old = with_line t.old line } })
 
 -- after the number of polls comes what the input is for
-unfoldable pub polls_step : Wanted → UpdateTextOf → List ℕ → Result UpdateState ℕ
+unfoldable pub polls_step : ExpectedPart → UpdateTextOf → List ℕ → Result UpdateState ℕ
 polls_step after t line =
     if not (is_polls_heading (words_of line)) then Ok (record { wanted = Polls; text = record t { new = with_line t.new line } })
     else (if not (list_all is_plain line) then Err not_plain
@@ -81,7 +81,7 @@ rest_step t line = Ok (record { wanted = Rest; text = record t { lanes = with_li
 
 -- ---- any line, of which this is the number
 
-abbrev pub wanted_step : Wanted → Wanted → UpdateTextOf → ℕ → List ℕ → Result UpdateState ℕ
+abbrev pub wanted_step : ExpectedPart → ExpectedPart → UpdateTextOf → ℕ → List ℕ → Result UpdateState ℕ
 wanted_step Old after t n line = old_step t line
 wanted_step New after t n line = new_step t line
 wanted_step Polls after t n line = polls_step after t line
@@ -89,7 +89,7 @@ wanted_step Lanes after t n line = lanes_step t n line
 wanted_step Nothing after t n line = nothing_step t line
 wanted_step Rest after t n line = rest_step t line
 
-abbrev pub update_step : Wanted → UpdateState → ℕ → List ℕ → Result UpdateState ℕ
+abbrev pub update_step : ExpectedPart → UpdateState → ℕ → List ℕ → Result UpdateState ℕ
 update_step after s n line = wanted_step s.wanted after s.text n line
 
 -- ---- all lines
@@ -101,19 +101,19 @@ abbrev pub update_start : UpdateState
 update_start = record { wanted = Old; text = no_text }
 
 -- the end of the lines, where `n` is the number of lines plus 1
-abbrev pub update_end : Wanted → UpdateTextOf → ℕ → Result UpdateTextOf Bad
+abbrev pub update_end : ExpectedPart → UpdateTextOf → ℕ → Result UpdateTextOf Bad
 update_end Old t n = Err (record { line = n; code = no_head })
 update_end Nothing t n = Ok t
 update_end Rest t n = Ok t
 update_end _ t n = Err (record { line = n; code = misplaced })
 
 -- the lines from number n on
-abbrev pub update_from : Wanted → UpdateState → ℕ → List (List ℕ) → Result UpdateTextOf Bad
+abbrev pub update_from : ExpectedPart → UpdateState → ℕ → List (List ℕ) → Result UpdateTextOf Bad
 update_from after s n [] = update_end s.wanted s.text n
 update_from after s n (line ∷ lines) = at_line n (update_step after s n line) (λ t. update_from after t (n + 1) lines)
 
 -- what follows the number of polls
-abbrev pub after_polls : Bool → Wanted
+abbrev pub after_polls : Bool → ExpectedPart
 after_polls with_lanes = if with_lanes then Lanes else Nothing
 
 -- The parts of an input, with lanes or without, or the first bad line of those outside the policies and the lanes.

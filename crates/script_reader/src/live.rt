@@ -5,7 +5,7 @@ ghost use Rattle.script_reader.specs.LiveLanes as spec;
 ghost use Rattle.script_reader.specs.Text.{IsPlainLine};
 ghost use Rattle.script_reader.specs.Sound.{IsSound};
 
-use crate::reader::{Place, Reader, is_skipped};
+use crate::reader::{Reader, ScriptPart, is_skipped};
 use crate::script::{ScriptError, bad_line, refusal};
 use crate::section::OpenSection;
 use crate::step::{MISPLACED, NOT_PLAIN, StepError};
@@ -28,7 +28,7 @@ const ONE_UNIT: Shape = Shape {
 };
 
 impl<'a> Reader<'a> {
-    ghost use Rattle.script_reader.specs.Steps.{Moves};
+    ghost use Rattle.script_reader.specs.Outcomes.{Moves};
 
     /// Before the first line of a live update's lanes.
     fn at_lanes(alloc: Global) -> Result<Reader<'a>, AllocError>
@@ -42,7 +42,7 @@ impl<'a> Reader<'a> {
             slots: 0,
         };
         Ok(Reader {
-            place: Place::Lane,
+            place: ScriptPart::Lane,
             shapes,
             boot,
             lanes: Vec::new(alloc),
@@ -111,7 +111,7 @@ fn finish(reader: Reader<'_>, line: u32) -> Result<Vec<Section>, ScriptError>
         ..
     } = reader;
     match place {
-        Place::Finished => {
+        ScriptPart::Finished => {
             if !lanes.is_empty() {
                 lanes.remove(0);
             }

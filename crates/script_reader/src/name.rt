@@ -2,7 +2,7 @@
 ghost use Rattle.std.specs.Prelude.{◌≡◌, ◌<◌, ◌≤◌, ◌^◌, true, length, Some, IfOk, IfSome};
 ghost use Rattle.std.specs.List.{list_all};
 ghost use Rattle.script_reader.specs.Names.{is_letter, is_letter_or_digit, is_name, key_of, rank_of, slot_of, slot_at, with_name};
-ghost use Rattle.script_reader.specs.Steps.{Moves};
+ghost use Rattle.script_reader.specs.Outcomes.{Moves};
 
 use crate::step::{NOT_A_NAME, StepError, TAKEN_NAME, UNKNOWN_NAME};
 use std::alloc::Global;

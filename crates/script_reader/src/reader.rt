@@ -18,7 +18,7 @@ use std::mem;
 
 /// Which lines may come next.
 #[derive(Clone, Copy, Debug, PartialEq, Eq)]
-pub enum Place {
+pub enum ScriptPart {
     /// `iopmp 1`.
     Head,
     /// Unit lines, and `boot` after the first of them.
@@ -34,7 +34,7 @@ pub enum Place {
 /// What the lines so far gave, and which may come next. After a line that is refused it is of no more use.
 #[derive(Drop)]
 pub struct Reader<'a> {
-    pub place: Place,
+    pub place: ScriptPart,
     pub shapes: Vec<Shape>,
     pub boot: Section,
     pub lanes: Vec<Section>,
@@ -73,7 +73,7 @@ pub(crate) fn is_skipped(words: &Words<'_>) -> bool
 
 impl<'a> Reader<'a> {
     ghost use Rattle.script_reader.specs.Lines.{State, start};
-    ghost use Rattle.script_reader.specs.Steps.{Moves};
+    ghost use Rattle.script_reader.specs.Outcomes.{Moves};
     ghost use Rattle.script_reader.specs.Sound.{IsSound, IsInSection, MayFollow};
 
     /// Before the first line.
@@ -86,7 +86,7 @@ impl<'a> Reader<'a> {
             slots: 0,
         };
         Reader {
-            place: Place::Head,
+            place: ScriptPart::Head,
             shapes: Vec::new(alloc),
             boot,
             lanes: Vec::new(alloc),
@@ -96,7 +96,7 @@ impl<'a> Reader<'a> {
 
     #[tactic(auto, unfolding(crate::specs::Lines::head_step))]
     fn head_line(&mut self, words: &Words<'a>) -> Result<(), StepError>
-        requires place { self.old.place ≡ Place.Head }
+        requires place { self.old.place ≡ ScriptPart.Head }
         requires sound { IsSound self.old }
         ensures value { Moves result self.new (spec.head_step self.old words.now) }
         ensures sound { OnOk result (IsSound self.new) }
@@ -105,13 +105,13 @@ impl<'a> Reader<'a> {
         if !is_head(words) {
             return Err(StepError::Code(NO_HEAD));
         }
-        self.place = Place::Units;
+        self.place = ScriptPart::Units;
         Ok(())
     }
 
     #[tactic(auto, unfolding(crate::specs::Lines::unit_step))]
     fn unit_line(&mut self, words: &Words<'a>) -> Result<(), StepError>
-        requires place { self.old.place ≡ Place.Units }
+        requires place { self.old.place ≡ ScriptPart.Units }
         requires few { length self.old.shapes < 4 }
         requires sound { IsSound self.old }
         ensures value { Moves result self.new (spec.unit_step self.old words.now) }
@@ -125,7 +125,7 @@ impl<'a> Reader<'a> {
 
     #[tactic(auto, unfolding(crate::specs::Lines::boot_step))]
     fn boot_line(&mut self, words: &Words<'a>) -> Result<(), StepError>
-        requires place { self.old.place ≡ Place.Units }
+        requires place { self.old.place ≡ ScriptPart.Units }
         requires some { 1 ≤ length self.old.shapes }
         requires sound { IsSound self.old }
         ensures value { Moves result self.new (spec.boot_step self.old words.now) }
@@ -135,7 +135,7 @@ impl<'a> Reader<'a> {
         if words.len() != 1 {
             return Err(StepError::Code(MISSHAPEN));
         }
-        self.place = Place::Boot;
+        self.place = ScriptPart::Boot;
         Ok(())
     }
 
@@ -144,13 +144,13 @@ impl<'a> Reader<'a> {
         ensures { result ≡ spec.next_lane self.now.place self.now.lanes }
     {
         match self.place {
-            Place::Lane => self.lanes.len() as u64 + 2,
+            ScriptPart::Lane => self.lanes.len() as u64 + 2,
             _ => 1,
         }
     }
 
     /// The open section is whole, and another stands in its place.
-    fn close(&mut self, alloc: Global, next: Place) -> Result<(), StepError>
+    fn close(&mut self, alloc: Global, next: ScriptPart) -> Result<(), StepError>
         requires in_section { IsInSection self.old.place }
         requires room { length self.old.section.commands ≤ 4194304 }
         requires next { MayFollow next self.old }
@@ -162,7 +162,7 @@ impl<'a> Reader<'a> {
         let section = mem::replace(&mut self.section, OpenSection::new(alloc));
         let whole = section.close();
         match self.place {
-            Place::Lane => self.lanes.push(whole)?,
+            ScriptPart::Lane => self.lanes.push(whole)?,
             _ => self.boot = whole,
         }
         self.place = next;
@@ -181,7 +181,7 @@ impl<'a> Reader<'a> {
         if words.len() != 1 {
             return Err(StepError::Code(MISSHAPEN));
         }
-        self.close(alloc, Place::Finished)
+        self.close(alloc, ScriptPart::Finished)
     }
 
     #[tactic(auto, unfolding(crate::specs::Lines::lane_step))]
@@ -201,7 +201,7 @@ impl<'a> Reader<'a> {
             return Err(StepError::Code(MISSHAPEN));
         }
         let _number = number(words.word(1))?;
-        self.close(alloc, Place::Lane)
+        self.close(alloc, ScriptPart::Lane)
     }
 
     #[tactic(auto, unfolding(crate::specs::Lines::submit_step))]
@@ -232,7 +232,7 @@ impl<'a> Reader<'a> {
 
     #[tactic(auto, unfolding(crate::specs::Lines::units_step))]
     fn units_line(&mut self, words: &Words<'a>) -> Result<(), StepError>
-        requires place { self.old.place ≡ Place.Units }
+        requires place { self.old.place ≡ ScriptPart.Units }
         requires sound { IsSound self.old }
         ensures value { Moves result self.new (spec.units_step self.old words.now) }
         ensures sound { OnOk result (IsSound self.new) }
@@ -275,10 +275,10 @@ impl<'a> Reader<'a> {
         ensures grown { OnOk result (length self.new.section.commands ≤ length self.old.section.commands + 1) }
     {
         match self.place {
-            Place::Head => self.head_line(words),
-            Place::Units => self.units_line(words),
-            Place::Boot | Place::Lane => self.section_line(alloc, words),
-            Place::Finished => Err(StepError::Code(MISPLACED)),
+            ScriptPart::Head => self.head_line(words),
+            ScriptPart::Units => self.units_line(words),
+            ScriptPart::Boot | ScriptPart::Lane => self.section_line(alloc, words),
+            ScriptPart::Finished => Err(StepError::Code(MISPLACED)),
         }
     }
 

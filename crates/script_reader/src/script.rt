@@ -7,7 +7,7 @@ ghost use Rattle.script_reader.specs.Sound.{IsSound};
 ghost use Rattle.script_reader.specs.Canonical.{IsReadableScript, IsToldWholly};
 ghost use Rattle.script_reader.specs.Answers.{reading_of, refusal_of, Answers, Reads};
 
-use crate::reader::{Place, Reader};
+use crate::reader::{Reader, ScriptPart};
 use crate::step::{MISPLACED, NO_HEAD, StepError};
 use crate::text::{self, Lines};
 use crate::words::Words;
@@ -110,9 +110,9 @@ fn finish(reader: Reader<'_>, line: u32) -> Result<Script, ScriptError>
         ..
     } = reader;
     match place {
-        Place::Head => Err(bad_line(line, NO_HEAD)),
-        Place::Units | Place::Boot | Place::Lane => Err(bad_line(line, MISPLACED)),
-        Place::Finished => Ok(Script {
+        ScriptPart::Head => Err(bad_line(line, NO_HEAD)),
+        ScriptPart::Units | ScriptPart::Boot | ScriptPart::Lane => Err(bad_line(line, MISPLACED)),
+        ScriptPart::Finished => Ok(Script {
             shapes,
             boot,
             lanes,

@@ -1,7 +1,7 @@
 // A section whose commands are being read.
 ghost use Rattle.std.specs.Prelude.{◌≡◌, ◌<◌, ◌^◌, length};
 ghost use Rattle.script_reader.specs.Lines.{new_section, section_of, with_submission, with_command};
-ghost use Rattle.script_reader.specs.Steps.{Moves};
+ghost use Rattle.script_reader.specs.Outcomes.{Moves};
 
 use crate::name::Names;
 use crate::step::StepError;

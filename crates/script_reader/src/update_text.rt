@@ -1,7 +1,7 @@
 // Reads the input of a live update: its headings, and the lines between them.
 ghost use Rattle.std.specs.Prelude.{◌≡◌, ◌+◌, ◌≤◌, ◌<◌, ℕ, length, IfOk};
 ghost use Rattle.script_reader.specs.Text.{words_of};
-ghost use Rattle.script_reader.specs.Steps.{Gives};
+ghost use Rattle.script_reader.specs.Outcomes.{Gives};
 ghost use Rattle.script_reader.specs.Answers.{Reads};
 ghost use Rattle.script_reader.specs.UpdateTexts as spec;
 ghost use Rattle.script_reader.specs.UpdateSizes.{FitsState, FitsWhole};
@@ -17,7 +17,7 @@ use std::marker::Model;
 
 /// Which heading is wanted next.
 #[derive(Clone, Copy, Debug, PartialEq, Eq)]
-pub enum Wanted {
+pub enum ExpectedPart {
     /// `== old`. Before it there may be lines that are skipped.
     Old,
     /// `== new`, up to which the lines are the old policy's.
@@ -54,7 +54,7 @@ impl Model for UpdateText {
 /// What the lines so far gave, and which heading is wanted next.
 #[derive(Drop)]
 struct UpdateReader {
-    wanted: Wanted,
+    wanted: ExpectedPart,
     text: UpdateText,
 }
 
@@ -87,7 +87,7 @@ fn add_line(part: &mut Vec<u8>, line: &[u8]) -> Result<(), AllocError>
     Ok(())
 }
 
-fn wants(wanted: Wanted, text: UpdateText) -> Result<UpdateReader, StepError>
+fn wants(wanted: ExpectedPart, text: UpdateText) -> Result<UpdateReader, StepError>
     ensures { result ≡ Ok (record { wanted = wanted; text = text }) }
 {
     Ok(UpdateReader { wanted, text })
@@ -102,12 +102,12 @@ fn old_line(text: UpdateText, words: &Words<'_>, line: &[u8]) -> Result<UpdateRe
         return Err(StepError::Code(NOT_PLAIN));
     }
     if is_skipped(words) {
-        return wants(Wanted::Old, text);
+        return wants(ExpectedPart::Old, text);
     }
     if !is_heading(words, b"old") {
         return Err(StepError::Code(NO_HEAD));
     }
-    wants(Wanted::New, text)
+    wants(ExpectedPart::New, text)
 }
 
 #[tactic(auto, unfolding(crate::specs::UpdateTexts::new_step))]
@@ -116,15 +116,15 @@ fn new_line(mut text: UpdateText, words: &Words<'_>, line: &[u8]) -> Result<Upda
     ensures { Gives result (spec.new_step text line.now) }
 {
     if is_heading(words, b"new") {
-        return wants(Wanted::Polls, text);
+        return wants(ExpectedPart::Polls, text);
     }
     add_line(&mut text.old, line)?;
-    wants(Wanted::New, text)
+    wants(ExpectedPart::New, text)
 }
 
 #[tactic(auto, unfolding(crate::specs::UpdateTexts::polls_step))]
 fn polls_line(
-    after: Wanted,
+    after: ExpectedPart,
     mut text: UpdateText,
     words: &Words<'_>,
     line: &[u8],
@@ -134,7 +134,7 @@ fn polls_line(
 {
     if !is_polls_heading(words) {
         add_line(&mut text.new, line)?;
-        return wants(Wanted::Polls, text);
+        return wants(ExpectedPart::Polls, text);
     }
     if !text::is_plain_line(line, false) {
         return Err(StepError::Code(NOT_PLAIN));
@@ -158,13 +158,13 @@ fn lanes_line(
         return Err(StepError::Code(NOT_PLAIN));
     }
     if is_skipped(words) {
-        return wants(Wanted::Lanes, text);
+        return wants(ExpectedPart::Lanes, text);
     }
     if !is_heading(words, b"lanes") {
         return Err(StepError::Code(MISPLACED));
     }
     text.first_line = number + 1;
-    wants(Wanted::Rest, text)
+    wants(ExpectedPart::Rest, text)
 }
 
 #[tactic(auto, unfolding(crate::specs::UpdateTexts::nothing_step))]
@@ -178,14 +178,14 @@ fn last_line(text: UpdateText, words: &Words<'_>, line: &[u8]) -> Result<UpdateR
     if !is_skipped(words) {
         return Err(StepError::Code(MISPLACED));
     }
-    wants(Wanted::Nothing, text)
+    wants(ExpectedPart::Nothing, text)
 }
 
 fn rest_line(mut text: UpdateText, line: &[u8]) -> Result<UpdateReader, StepError>
     ensures { Gives result (spec.rest_step text line.now) }
 {
     add_line(&mut text.lanes, line)?;
-    wants(Wanted::Rest, text)
+    wants(ExpectedPart::Rest, text)
 }
 
 impl UpdateReader {
@@ -194,7 +194,7 @@ impl UpdateReader {
         ensures { result ≡ spec.update_start }
     {
         UpdateReader {
-            wanted: Wanted::Old,
+            wanted: ExpectedPart::Old,
             text: UpdateText {
                 old: Vec::new(alloc),
                 new: Vec::new(alloc),
@@ -208,7 +208,7 @@ impl UpdateReader {
     /// The state after one more line, whose words these are. `after` is wanted after the number of polls.
     fn line(
         self,
-        after: Wanted,
+        after: ExpectedPart,
         number: u32,
         words: &Words<'_>,
         line: &[u8],
@@ -219,12 +219,12 @@ impl UpdateReader {
     {
         let UpdateReader { wanted, text } = self;
         match wanted {
-            Wanted::Old => old_line(text, words, line),
-            Wanted::New => new_line(text, words, line),
-            Wanted::Polls => polls_line(after, text, words, line),
-            Wanted::Lanes => lanes_line(text, number, words, line),
-            Wanted::Nothing => last_line(text, words, line),
-            Wanted::Rest => rest_line(text, line),
+            ExpectedPart::Old => old_line(text, words, line),
+            ExpectedPart::New => new_line(text, words, line),
+            ExpectedPart::Polls => polls_line(after, text, words, line),
+            ExpectedPart::Lanes => lanes_line(text, number, words, line),
+            ExpectedPart::Nothing => last_line(text, words, line),
+            ExpectedPart::Rest => rest_line(text, line),
         }
     }
 }
@@ -236,20 +236,22 @@ fn finish(reader: UpdateReader, line: u32) -> Result<UpdateText, ScriptError>
 {
     let UpdateReader { wanted, text } = reader;
     match wanted {
-        Wanted::Nothing | Wanted::Rest => Ok(text),
-        Wanted::Old => Err(bad_line(line, NO_HEAD)),
-        Wanted::New | Wanted::Polls | Wanted::Lanes => Err(bad_line(line, MISPLACED)),
+        ExpectedPart::Nothing | ExpectedPart::Rest => Ok(text),
+        ExpectedPart::Old => Err(bad_line(line, NO_HEAD)),
+        ExpectedPart::New | ExpectedPart::Polls | ExpectedPart::Lanes => Err(bad_line(
+            line, MISPLACED,
+        )),
     }
 }
 
 /// What is wanted after the number of polls.
-fn after_polls(with_lanes: bool) -> Wanted
+fn after_polls(with_lanes: bool) -> ExpectedPart
     ensures { result ≡ spec.after_polls with_lanes }
 {
     if with_lanes {
-        Wanted::Lanes
+        ExpectedPart::Lanes
     } else {
-        Wanted::Nothing
+        ExpectedPart::Nothing
     }
 }
 

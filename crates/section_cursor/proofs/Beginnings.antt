@@ -6,7 +6,7 @@ use Rattle.event_words.specs.declared.record.LoggedEvent.{LoggedEvent}
 use Rattle.event_words.specs.declared.section.Command.{Command}
 use Rattle.event_words.specs.Events.{same_event}
 use Rattle.event_words.specs.Sections.{stage_units}
-use Rattle.event_words.specs.Records.{OpenSlot, judgements, polls, stage_judged, one_stage, settled, until_piece, through_piece, through_stages, after_piece, end_from, is_held, hits, closed_by}
+use Rattle.event_words.specs.Records.{OpenSlot, judgements, polls, stage_judged, one_stage, settled, until_piece, through_piece, through_stages, after_piece, end_of_commands, is_held, hits, closed_by}
 use Rattle.section_cursor.specs.declared.ahead.Chain.{Chain}
 use Rattle.section_cursor.specs.declared.ahead.Part.TheVariants.{Polling, StageJudging, Judging}
 use Rattle.section_cursor.specs.declared.ahead.Ahead.TheVariants.{Awaiting}
@@ -22,38 +22,38 @@ taken C none true y = refl
 taken C none false y = sym none
 
 judging_next : (caller : ℕ) (cs : List Command) (slots : List (Option OpenSlot)) (slot : ℕ) (e : Event) (left : ℕ) (xs : List LoggedEvent)
-    → end_of_rest caller cs slots (Awaiting e (Judging slot left)) xs ≡ after_piece (end_from caller cs) (settled slots slot (judgements (suc left) e xs))
+    → end_of_rest caller cs slots (Awaiting e (Judging slot left)) xs ≡ after_piece (end_of_commands caller cs) (settled slots slot (judgements (suc left) e xs))
 judging_next caller cs slots slot e left [] = refl
-judging_next caller cs slots slot e left (x ∷ xs) = refused (λ o. after_piece (end_from caller cs) (settled slots slot o)) refl (same_event e x.event) _
+judging_next caller cs slots slot e left (x ∷ xs) = refused (λ o. after_piece (end_of_commands caller cs) (settled slots slot o)) refl (same_event e x.event) _
 
 pub judging_first : (caller : ℕ) (cs : List Command) (slots : List (Option OpenSlot)) (slot : ℕ) (e : Event) (tries left : ℕ) (xs : List LoggedEvent) → suc left ≡ tries
-    → end_of_rest caller cs slots (Awaiting e (Judging slot left)) xs ≡ after_piece (end_from caller cs) (settled slots slot (judgements tries e xs))
+    → end_of_rest caller cs slots (Awaiting e (Judging slot left)) xs ≡ after_piece (end_of_commands caller cs) (settled slots slot (judgements tries e xs))
 judging_first caller cs slots slot e tries left xs h =
-    judging_next caller cs slots slot e left xs ∙ ap (λ n. after_piece (end_from caller cs) (settled slots slot (judgements n e xs))) h
+    judging_next caller cs slots slot e left xs ∙ ap (λ n. after_piece (end_of_commands caller cs) (settled slots slot (judgements n e xs))) h
 
 polling_next : (caller : ℕ) (cs : List Command) (slots : List (Option OpenSlot)) (e : Event) (mask value left : ℕ) (xs : List LoggedEvent)
-    → end_of_rest caller cs slots (Awaiting e (Polling mask value left)) xs ≡ after_piece (end_from caller cs) (until_piece slots (polls (suc left) e mask value xs))
+    → end_of_rest caller cs slots (Awaiting e (Polling mask value left)) xs ≡ after_piece (end_of_commands caller cs) (until_piece slots (polls (suc left) e mask value xs))
 polling_next caller cs slots e mask value left [] = refl
-polling_next caller cs slots e mask value left (x ∷ xs) = refused (λ o. after_piece (end_from caller cs) (until_piece slots o)) refl (same_event e x.event) _
+polling_next caller cs slots e mask value left (x ∷ xs) = refused (λ o. after_piece (end_of_commands caller cs) (until_piece slots o)) refl (same_event e x.event) _
 
 pub polling_first : (caller : ℕ) (cs : List Command) (slots : List (Option OpenSlot)) (e : Event) (mask value tries left : ℕ) (xs : List LoggedEvent) → suc left ≡ tries
-    → end_of_rest caller cs slots (Awaiting e (Polling mask value left)) xs ≡ after_piece (end_from caller cs) (until_piece slots (polls tries e mask value xs))
+    → end_of_rest caller cs slots (Awaiting e (Polling mask value left)) xs ≡ after_piece (end_of_commands caller cs) (until_piece slots (polls tries e mask value xs))
 polling_first caller cs slots e mask value tries left xs h =
-    polling_next caller cs slots e mask value left xs ∙ ap (λ n. after_piece (end_from caller cs) (until_piece slots (polls n e mask value xs))) h
+    polling_next caller cs slots e mask value left xs ∙ ap (λ n. after_piece (end_of_commands caller cs) (until_piece slots (polls n e mask value xs))) h
 
 stage_judging_next : (caller : ℕ) (cs : List Command) (slots : List (Option OpenSlot)) (e : Event) (left : ℕ) (chain : Chain) (xs : List LoggedEvent)
     → end_of_rest caller cs slots (Awaiting e (StageJudging left chain)) xs
-    ≡ after_piece (end_from caller cs) (through_piece slots (stage_judged (stages_on caller chain) (judgements (suc left) e xs)))
+    ≡ after_piece (end_of_commands caller cs) (through_piece slots (stage_judged (stages_on caller chain) (judgements (suc left) e xs)))
 stage_judging_next caller cs slots e left chain [] = refl
 stage_judging_next caller cs slots e left chain (x ∷ xs) =
-    refused (λ o. after_piece (end_from caller cs) (through_piece slots (stage_judged (stages_on caller chain) o))) refl (same_event e x.event) _
+    refused (λ o. after_piece (end_of_commands caller cs) (through_piece slots (stage_judged (stages_on caller chain) o))) refl (same_event e x.event) _
 
 pub stage_judging_first : (caller : ℕ) (cs : List Command) (slots : List (Option OpenSlot)) (e : Event) (tries left : ℕ) (chain : Chain) (xs : List LoggedEvent) → suc left ≡ tries
     → end_of_rest caller cs slots (Awaiting e (StageJudging left chain)) xs
-    ≡ after_piece (end_from caller cs) (through_piece slots (stage_judged (stages_on caller chain) (judgements tries e xs)))
+    ≡ after_piece (end_of_commands caller cs) (through_piece slots (stage_judged (stages_on caller chain) (judgements tries e xs)))
 stage_judging_first caller cs slots e tries left chain xs h =
     stage_judging_next caller cs slots e left chain xs
-    ∙ ap (λ n. after_piece (end_from caller cs) (through_piece slots (stage_judged (stages_on caller chain) (judgements n e xs)))) h
+    ∙ ap (λ n. after_piece (end_of_commands caller cs) (through_piece slots (stage_judged (stages_on caller chain) (judgements n e xs)))) h
 
 -- ---- tries that are left
 
@@ -69,14 +69,14 @@ pub judging_again : (caller : ℕ) (cs : List Command) (slots : List (Option Ope
     → end_of_rest caller cs slots (Awaiting e (Judging slot left)) xs ≡ end_after caller cs slots e (Judging slot tries) x xs
 judging_again caller cs slots slot e left tries x xs t h =
     judging_first caller cs slots slot e tries left xs t
-    ∙ ap (λ (b : Bool). after_piece (end_from caller cs) (settled slots slot (if b then judgements tries e xs else Some (x.reply, xs)))) (sym (left_to_try (is_held x.reply) left tries t h))
+    ∙ ap (λ (b : Bool). after_piece (end_of_commands caller cs) (settled slots slot (if b then judgements tries e xs else Some (x.reply, xs)))) (sym (left_to_try (is_held x.reply) left tries t h))
 
 pub polling_again : (caller : ℕ) (cs : List Command) (slots : List (Option OpenSlot)) (e : Event) (mask value left tries : ℕ) (x : LoggedEvent) (xs : List LoggedEvent)
     → suc left ≡ tries → hits mask value x.reply ≡ false
     → end_of_rest caller cs slots (Awaiting e (Polling mask value left)) xs ≡ end_after caller cs slots e (Polling mask value tries) x xs
 polling_again caller cs slots e mask value left tries x xs t h =
     polling_first caller cs slots e mask value tries left xs t
-    ∙ ap (λ (b : Bool). after_piece (end_from caller cs) (until_piece slots (if b then polls tries e mask value xs else Some (hits mask value x.reply, xs))))
+    ∙ ap (λ (b : Bool). after_piece (end_of_commands caller cs) (until_piece slots (if b then polls tries e mask value xs else Some (hits mask value x.reply, xs))))
     (sym (left_to_try (not (hits mask value x.reply)) left tries t (rw h refl)))
 
 pub stage_judging_again : (caller : ℕ) (cs : List Command) (slots : List (Option OpenSlot)) (e : Event) (left tries : ℕ) (chain : Chain) (x : LoggedEvent) (xs : List LoggedEvent)
@@ -84,28 +84,28 @@ pub stage_judging_again : (caller : ℕ) (cs : List Command) (slots : List (Opti
     → end_of_rest caller cs slots (Awaiting e (StageJudging left chain)) xs ≡ end_after caller cs slots e (StageJudging tries chain) x xs
 stage_judging_again caller cs slots e left tries chain x xs t h =
     stage_judging_first caller cs slots e tries left chain xs t
-    ∙ ap (λ (b : Bool). after_piece (end_from caller cs) (through_piece slots (stage_judged (stages_on caller chain) (if b then judgements tries e xs else Some (x.reply, xs)))))
+    ∙ ap (λ (b : Bool). after_piece (end_of_commands caller cs) (through_piece slots (stage_judged (stages_on caller chain) (if b then judgements tries e xs else Some (x.reply, xs)))))
     (sym (left_to_try (is_held x.reply) left tries t h))
 
 -- after the last of several tries
 
 pub judged_last : (caller : ℕ) (cs : List Command) (slots : List (Option OpenSlot)) (slot : ℕ) (e : Event) (left : ℕ) (x : LoggedEvent) (xs : List LoggedEvent)
     → (is_held x.reply && nat_lt 0 left) ≡ false
-    → end_from caller cs (closed_by x.reply slot slots) xs ≡ end_after caller cs slots e (Judging slot left) x xs
+    → end_of_commands caller cs (closed_by x.reply slot slots) xs ≡ end_after caller cs slots e (Judging slot left) x xs
 judged_last caller cs slots slot e left x xs h =
-    ap (λ (b : Bool). after_piece (end_from caller cs) (settled slots slot (if b then judgements left e xs else Some (x.reply, xs)))) (sym h)
+    ap (λ (b : Bool). after_piece (end_of_commands caller cs) (settled slots slot (if b then judgements left e xs else Some (x.reply, xs)))) (sym h)
 
 pub polled_last : (caller : ℕ) (cs : List Command) (slots : List (Option OpenSlot)) (e : Event) (mask value left : ℕ) (x : LoggedEvent) (xs : List LoggedEvent)
     → (not (hits mask value x.reply) && nat_lt 0 left) ≡ false
-    → after_piece (end_from caller cs) (until_piece slots (Some (hits mask value x.reply, xs))) ≡ end_after caller cs slots e (Polling mask value left) x xs
+    → after_piece (end_of_commands caller cs) (until_piece slots (Some (hits mask value x.reply, xs))) ≡ end_after caller cs slots e (Polling mask value left) x xs
 polled_last caller cs slots e mask value left x xs h =
-    ap (λ (b : Bool). after_piece (end_from caller cs) (until_piece slots (if b then polls left e mask value xs else Some (hits mask value x.reply, xs)))) (sym h)
+    ap (λ (b : Bool). after_piece (end_of_commands caller cs) (until_piece slots (if b then polls left e mask value xs else Some (hits mask value x.reply, xs)))) (sym h)
 
 pub stage_judged_last : (caller : ℕ) (cs : List Command) (slots : List (Option OpenSlot)) (e : Event) (left : ℕ) (chain : Chain) (x : LoggedEvent) (xs : List LoggedEvent)
     → (is_held x.reply && nat_lt 0 left) ≡ false
-    → after_piece (end_from caller cs) (through_piece slots (stage_judged (stages_on caller chain) (Some (x.reply, xs)))) ≡ end_after caller cs slots e (StageJudging left chain) x xs
+    → after_piece (end_of_commands caller cs) (through_piece slots (stage_judged (stages_on caller chain) (Some (x.reply, xs)))) ≡ end_after caller cs slots e (StageJudging left chain) x xs
 stage_judged_last caller cs slots e left chain x xs h =
-    ap (λ (b : Bool). after_piece (end_from caller cs) (through_piece slots (stage_judged (stages_on caller chain) (if b then judgements left e xs else Some (x.reply, xs))))) (sym h)
+    ap (λ (b : Bool). after_piece (end_of_commands caller cs) (through_piece slots (stage_judged (stages_on caller chain) (if b then judgements left e xs else Some (x.reply, xs))))) (sym h)
 
 -- ---- stages
 
@@ -123,15 +123,15 @@ drop_past (x ∷ xs) (suc i) h = drop_past xs i h
 -- no stage is left
 pub passing_none : (caller : ℕ) (cs : List Command) (slots : List (Option OpenSlot)) (chain : Chain) (rrid : ℕ) (xs : List LoggedEvent)
     → slice_get (stage_units chain.stages) chain.stage ≡ None
-    → end_from caller cs slots xs ≡ after_piece (end_from caller cs) (through_piece slots (stages_on caller chain rrid xs))
+    → end_of_commands caller cs slots xs ≡ after_piece (end_of_commands caller cs) (through_piece slots (stages_on caller chain rrid xs))
 passing_none caller cs slots chain rrid xs h =
-    ap (λ us. after_piece (end_from caller cs) (through_piece slots (through_stages caller chain.max chain.access us rrid xs))) (sym (drop_past (stage_units chain.stages) chain.stage h))
+    ap (λ us. after_piece (end_of_commands caller cs) (through_piece slots (through_stages caller chain.max chain.access us rrid xs))) (sym (drop_past (stage_units chain.stages) chain.stage h))
 
 -- the stages from the next one on are that stage and those after it
 pub passing_first : (caller : ℕ) (cs : List Command) (slots : List (Option OpenSlot)) (unit : ℕ) (chain : Chain) (next rrid : ℕ) (xs : List LoggedEvent)
     → slice_get (stage_units chain.stages) chain.stage ≡ Some unit → suc chain.stage ≡ next
-    → after_piece (end_from caller cs) (through_piece slots (one_stage caller chain.max unit (record chain.access { rrid = rrid }) (stages_on caller (record chain { stage = next })) xs))
-    ≡ after_piece (end_from caller cs) (through_piece slots (stages_on caller chain rrid xs))
+    → after_piece (end_of_commands caller cs) (through_piece slots (one_stage caller chain.max unit (record chain.access { rrid = rrid }) (stages_on caller (record chain { stage = next })) xs))
+    ≡ after_piece (end_of_commands caller cs) (through_piece slots (stages_on caller chain rrid xs))
 passing_first caller cs slots unit chain next rrid xs h n =
-    ap (λ us. after_piece (end_from caller cs) (through_piece slots (through_stages caller chain.max chain.access us rrid xs)))
+    ap (λ us. after_piece (end_of_commands caller cs) (through_piece slots (through_stages caller chain.max chain.access us rrid xs)))
     (ap (λ i. unit ∷ drop i (stage_units chain.stages)) (sym n) ∙ sym (drop_next (stage_units chain.stages) chain.stage unit h))

@@ -15,7 +15,7 @@ use Rattle.event_words.specs.Word.{kind_code}
 use Rattle.event_words.specs.Events.{same_event}
 use Rattle.event_words.specs.Sections.{stage_units}
 use Rattle.event_words.specs.Valid.{is_narrow}
-use Rattle.event_words.specs.Records.{OpenSlot, first_as, judgements, polls, is_held, is_taken, hits, opened_slot, closed_by, one_piece, submit_piece, settled, settle_piece, until_piece, next_requester, stage_following, stage_judged, stage_piece, aimed_piece, one_stage, second_as, wide_event, submission_as, is_aimed, through_stages, through_piece, after_piece, end_from, slot_of}
+use Rattle.event_words.specs.Records.{OpenSlot, take_event, judgements, polls, is_held, is_taken, hits, opened_slot, closed_by, one_piece, submit_piece, settled, settle_piece, until_piece, next_requester, stage_following, stage_judged, stage_piece, aimed_piece, one_stage, take_event_after, wide_event, take_submission, is_aimed, through_stages, through_piece, after_piece, end_of_commands, slot_of}
 use Rattle.section_cursor.specs.declared.ahead.Chain.{Chain}
 use Rattle.section_cursor.specs.declared.ahead.Part.{Part}
 use Rattle.section_cursor.specs.declared.ahead.Part.TheVariants.{Alone, Submission, Aiming, Judging, Polling, StageAiming, Stage, StageJudging}
@@ -51,7 +51,7 @@ pair a xs = (a, xs)
 abbrev pub Completes : (List LoggedEvent → Option SectionEnd) → Type 0
 Completes f = (xs : List LoggedEvent) × IsSome (f xs)
 
-first_self : (e : Event) (xs : List LoggedEvent) → first_as e (answer e ∷ xs) ≡ Some (pair (answer e) xs)
+first_self : (e : Event) (xs : List LoggedEvent) → take_event e (answer e ∷ xs) ≡ Some (pair (answer e) xs)
 first_self e xs = rw same_self refl
 
 judged_self : (n : ℕ) (e : Event) (xs : List LoggedEvent) → judgements (suc n) e (answer e ∷ xs) ≡ Some (pair replies.NoSuch xs)
@@ -75,7 +75,7 @@ stage_passed caller max unit access go after true e =
     let a = events.Aim caller access.addr in
     let xs = answer s ∷ after in (
       xs,
-      ap (λ (z : Bool). if z then stage_piece caller max unit go (first_as s xs) else aimed_piece caller max unit go (wide_event unit caller access) (first_as a xs)) e
+      ap (λ (z : Bool). if z then stage_piece caller max unit go (take_event s xs) else aimed_piece caller max unit go (wide_event unit caller access) (take_event a xs)) e
           ∙ ap (λ o. stage_piece caller max unit go o) (first_self s after),
     )
 stage_passed caller max unit access go after false e =
@@ -83,7 +83,7 @@ stage_passed caller max unit access go after false e =
     let a = events.Aim caller access.addr in
     let xs = answer a ∷ after in (
       xs,
-      ap (λ (z : Bool). if z then stage_piece caller max unit go (first_as s xs) else aimed_piece caller max unit go (wide_event unit caller access) (first_as a xs)) e
+      ap (λ (z : Bool). if z then stage_piece caller max unit go (take_event s xs) else aimed_piece caller max unit go (wide_event unit caller access) (take_event a xs)) e
           ∙ ap (λ o. aimed_piece caller max unit go (wide_event unit caller access) o) (first_self a after),
     )
 
@@ -95,32 +95,32 @@ passed_over caller max access (u ∷ us) rrid after =
 
 -- ---- commands
 
-settle_completes : (caller : ℕ) (cs : List Command) → ((slots : List (Option OpenSlot)) → Completes (end_from caller cs slots)) → (n : ℕ) (slots : List (Option OpenSlot)) (i : ℕ) (o : Option OpenSlot)
-    → Completes (λ xs. after_piece (end_from caller cs) (settle_piece caller (suc n) slots i o xs))
+settle_completes : (caller : ℕ) (cs : List Command) → ((slots : List (Option OpenSlot)) → Completes (end_of_commands caller cs slots)) → (n : ℕ) (slots : List (Option OpenSlot)) (i : ℕ) (o : Option OpenSlot)
+    → Completes (λ xs. after_piece (end_of_commands caller cs) (settle_piece caller (suc n) slots i o xs))
 settle_completes caller cs go n slots i None = go slots
 settle_completes caller cs go n slots i (Some slot) =
     let e = events.Judge slot.unit caller slot.place in
     let rest = go slots in
-    (answer e ∷ rest.0, subst (λ o. IsSome (after_piece (end_from caller cs) (settled slots i o))) (sym (judged_self n e rest.0)) rest.1)
+    (answer e ∷ rest.0, subst (λ o. IsSome (after_piece (end_of_commands caller cs) (settled slots i o))) (sym (judged_self n e rest.0)) rest.1)
 
 until_completes : (caller : ℕ) (cs : List Command) (n : ℕ) (e : Event) (mask value : ℕ) (slots : List (Option OpenSlot))
-    → Completes (λ xs. after_piece (end_from caller cs) (until_piece slots (polls (suc n) e mask value xs)))
+    → Completes (λ xs. after_piece (end_of_commands caller cs) (until_piece slots (polls (suc n) e mask value xs)))
 until_completes caller cs n e mask value slots =
     let rest = missed n e mask value in
-    (rest.0, subst (λ o. IsSome (after_piece (end_from caller cs) (until_piece slots o))) (sym rest.1) refl)
+    (rest.0, subst (λ o. IsSome (after_piece (end_of_commands caller cs) (until_piece slots o))) (sym rest.1) refl)
 
-one_completes : (C : Option (LoggedEvent × List LoggedEvent) → Option SectionEnd) (e : Event) → Completes (λ xs. C (Some (pair (answer e) xs))) → Completes (λ xs. C (first_as e xs))
+one_completes : (C : Option (LoggedEvent × List LoggedEvent) → Option SectionEnd) (e : Event) → Completes (λ xs. C (Some (pair (answer e) xs))) → Completes (λ xs. C (take_event e xs))
 one_completes C e rest = (answer e ∷ rest.0, subst (λ o. IsSome (C o)) (sym (first_self e rest.0)) rest.1)
 
 -- a submission of one event or two
 submission_completes : (C : Option (LoggedEvent × List LoggedEvent) → Option SectionEnd) (unit caller : ℕ) (access : Access) → ((e : Event) → Completes (λ xs. C (Some (pair (answer e) xs)))) → (narrow : Bool) → is_narrow access ≡ narrow
-    → Completes (λ xs. C (submission_as unit caller access xs))
+    → Completes (λ xs. C (take_submission unit caller access xs))
 submission_completes C unit caller access go true e =
     let s = events.Submit unit caller access in
     let a = events.Aim caller access.addr in
     let rest = go s in
     let xs = answer s ∷ rest.0 in
-    let is = ap (λ (z : Bool). if z then first_as s xs else second_as (wide_event unit caller access) (first_as a xs)) e ∙ first_self s rest.0 in
+    let is = ap (λ (z : Bool). if z then take_event s xs else take_event_after (wide_event unit caller access) (take_event a xs)) e ∙ first_self s rest.0 in
     (xs, subst (λ o. IsSome (C o)) (sym is) rest.1)
 submission_completes C unit caller access go false e =
     let s = events.Submit unit caller access in
@@ -129,24 +129,24 @@ submission_completes C unit caller access go false e =
     let rest = go w in
     let ys = answer w ∷ rest.0 in
     let xs = answer a ∷ ys in
-    let is = ap (λ (z : Bool). if z then first_as s xs else second_as w (first_as a xs)) e ∙ (ap (λ o. second_as w o) (first_self a ys) ∙ first_self w rest.0) in
+    let is = ap (λ (z : Bool). if z then take_event s xs else take_event_after w (take_event a xs)) e ∙ (ap (λ o. take_event_after w o) (first_self a ys) ∙ first_self w rest.0) in
     (xs, subst (λ o. IsSome (C o)) (sym is) rest.1)
 
-through_completes : (caller : ℕ) (cs : List Command) → ((slots : List (Option OpenSlot)) → Completes (end_from caller cs slots)) → (max : ℕ) (access : Access) (us : List ℕ) (rrid : ℕ) (slots : List (Option OpenSlot))
-    → Completes (λ xs. after_piece (end_from caller cs) (through_piece slots (through_stages caller max access us rrid xs)))
+through_completes : (caller : ℕ) (cs : List Command) → ((slots : List (Option OpenSlot)) → Completes (end_of_commands caller cs slots)) → (max : ℕ) (access : Access) (us : List ℕ) (rrid : ℕ) (slots : List (Option OpenSlot))
+    → Completes (λ xs. after_piece (end_of_commands caller cs) (through_piece slots (through_stages caller max access us rrid xs)))
 through_completes caller cs go max access us rrid slots =
     let rest = go slots in
     let passed = passed_over caller max access us rrid rest.0 in
-    (passed.0, subst (λ o. IsSome (after_piece (end_from caller cs) (through_piece slots o))) (sym passed.1) rest.1)
+    (passed.0, subst (λ o. IsSome (after_piece (end_of_commands caller cs) (through_piece slots o))) (sym passed.1) rest.1)
 
-pub commands_complete : (caller : ℕ) (cs : List Command) (slots : List (Option OpenSlot)) → AllByRecursion HasTries cs → Completes (end_from caller cs slots)
+pub commands_complete : (caller : ℕ) (cs : List Command) (slots : List (Option OpenSlot)) → AllByRecursion HasTries cs → Completes (end_of_commands caller cs slots)
 commands_complete caller [] slots t = ([], refl)
 commands_complete caller (Write unit index value ∷ cs) slots t =
-    one_completes (λ o. after_piece (end_from caller cs) (one_piece slots o)) (events.RegWrite unit caller index value) (commands_complete caller cs slots t.1)
+    one_completes (λ o. after_piece (end_of_commands caller cs) (one_piece slots o)) (events.RegWrite unit caller index value) (commands_complete caller cs slots t.1)
 commands_complete caller (Read unit index ∷ cs) slots t =
-    one_completes (λ o. after_piece (end_from caller cs) (one_piece slots o)) (events.RegRead unit caller index) (commands_complete caller cs slots t.1)
+    one_completes (λ o. after_piece (end_of_commands caller cs) (one_piece slots o)) (events.RegRead unit caller index) (commands_complete caller cs slots t.1)
 commands_complete caller (Submit unit access slot ∷ cs) slots t =
-    submission_completes (λ o. after_piece (end_from caller cs) (submit_piece slots unit o)) unit caller access (λ e. commands_complete caller cs (slots ++ None ∷ []) t.1) _ refl
+    submission_completes (λ o. after_piece (end_of_commands caller cs) (submit_piece slots unit o)) unit caller access (λ e. commands_complete caller cs (slots ++ None ∷ []) t.1) _ refl
 commands_complete caller (Judge slot ∷ cs) slots t = settle_completes caller cs (λ ss. commands_complete caller cs ss t.1) 0 slots slot (slot_of slots slot)
 commands_complete caller (Settle slot zero ∷ cs) slots t = absurd (omega (arith, t.0))
 commands_complete caller (Settle slot (suc n) ∷ cs) slots t = settle_completes caller cs (λ ss. commands_complete caller cs ss t.1) n slots slot (slot_of slots slot)
@@ -174,34 +174,34 @@ judged_completes C go r true (suc n) e =
     (answer e ∷ rest.0, if_chosen C true _ _ _ (positive n) (subst (λ o. IsSome (C o)) (sym (judged_self n e rest.0)) rest.1))
 
 -- after a read, and those that are left where it misses
-polled_completes : (caller : ℕ) (cs : List Command) (slots : List (Option OpenSlot)) → Completes (end_from caller cs slots) → (hit : Bool) (left : ℕ) (e : Event) (mask value : ℕ)
-    → Completes (λ xs. after_piece (end_from caller cs) (until_piece slots (if not hit && nat_lt 0 left then polls left e mask value xs else Some (pair hit xs))))
+polled_completes : (caller : ℕ) (cs : List Command) (slots : List (Option OpenSlot)) → Completes (end_of_commands caller cs slots) → (hit : Bool) (left : ℕ) (e : Event) (mask value : ℕ)
+    → Completes (λ xs. after_piece (end_of_commands caller cs) (until_piece slots (if not hit && nat_lt 0 left then polls left e mask value xs else Some (pair hit xs))))
 polled_completes caller cs slots go true left e mask value = go
 polled_completes caller cs slots go false zero e mask value = ([], refl)
 polled_completes caller cs slots go false (suc n) e mask value =
     let rest = until_completes caller cs n e mask value slots in
-    (rest.0, if_chosen (λ o. after_piece (end_from caller cs) (until_piece slots o)) true _ _ _ (positive n) rest.1)
+    (rest.0, if_chosen (λ o. after_piece (end_of_commands caller cs) (until_piece slots o)) true _ _ _ (positive n) rest.1)
 
-following_completes : (caller : ℕ) (cs : List Command) → ((slots : List (Option OpenSlot)) → Completes (end_from caller cs slots)) → (slots : List (Option OpenSlot)) (chain : Chain) (o : Option ℕ)
-    → Completes (λ xs. after_piece (end_from caller cs) (through_piece slots (stage_following (stages_on caller chain) o xs)))
+following_completes : (caller : ℕ) (cs : List Command) → ((slots : List (Option OpenSlot)) → Completes (end_of_commands caller cs slots)) → (slots : List (Option OpenSlot)) (chain : Chain) (o : Option ℕ)
+    → Completes (λ xs. after_piece (end_of_commands caller cs) (through_piece slots (stage_following (stages_on caller chain) o xs)))
 following_completes caller cs go slots chain None = go slots
 following_completes caller cs go slots chain (Some rrid) = through_completes caller cs go chain.max chain.access (drop chain.stage (stage_units chain.stages)) rrid slots
 
-submitted_completes : (caller : ℕ) (cs : List Command) → ((slots : List (Option OpenSlot)) → Completes (end_from caller cs slots)) → (slots : List (Option OpenSlot)) (chain : Chain) (taken : Bool) (max : ℕ) (e : Event) → 1 ≤ max
-    → Completes (λ xs. after_piece (end_from caller cs) (through_piece slots (if taken then stage_judged (stages_on caller chain) (judgements max e xs) else Some xs)))
+submitted_completes : (caller : ℕ) (cs : List Command) → ((slots : List (Option OpenSlot)) → Completes (end_of_commands caller cs slots)) → (slots : List (Option OpenSlot)) (chain : Chain) (taken : Bool) (max : ℕ) (e : Event) → 1 ≤ max
+    → Completes (λ xs. after_piece (end_of_commands caller cs) (through_piece slots (if taken then stage_judged (stages_on caller chain) (judgements max e xs) else Some xs)))
 submitted_completes caller cs go slots chain false max e t = go slots
 submitted_completes caller cs go slots chain true zero e t = absurd (omega arith)
 submitted_completes caller cs go slots chain true (suc n) e t =
     let rest = go slots in
-    (answer e ∷ rest.0, subst (λ o. IsSome (after_piece (end_from caller cs) (through_piece slots (stage_judged (stages_on caller chain) o)))) (sym (judged_self n e rest.0)) rest.1)
+    (answer e ∷ rest.0, subst (λ o. IsSome (after_piece (end_of_commands caller cs) (through_piece slots (stage_judged (stages_on caller chain) o)))) (sym (judged_self n e rest.0)) rest.1)
 
 -- after the Aim of a stage's submission
-aimed_completes : (caller : ℕ) (cs : List Command) → ((slots : List (Option OpenSlot)) → Completes (end_from caller cs slots)) → (slots : List (Option OpenSlot)) (chain : Chain) (unit : ℕ) (wide : Event) (aimed : Bool)
-    → Completes (λ xs. after_piece (end_from caller cs) (through_piece slots (if aimed then stage_piece caller chain.max unit (stages_on caller chain) (first_as wide xs) else Some xs)))
+aimed_completes : (caller : ℕ) (cs : List Command) → ((slots : List (Option OpenSlot)) → Completes (end_of_commands caller cs slots)) → (slots : List (Option OpenSlot)) (chain : Chain) (unit : ℕ) (wide : Event) (aimed : Bool)
+    → Completes (λ xs. after_piece (end_of_commands caller cs) (through_piece slots (if aimed then stage_piece caller chain.max unit (stages_on caller chain) (take_event wide xs) else Some xs)))
 aimed_completes caller cs go slots chain unit wide false = go slots
 aimed_completes caller cs go slots chain unit wide true =
     let rest = go slots in
-    (answer wide ∷ rest.0, subst (λ o. IsSome (after_piece (end_from caller cs) (through_piece slots (stage_piece caller chain.max unit (stages_on caller chain) o)))) (sym (first_self wide rest.0)) rest.1)
+    (answer wide ∷ rest.0, subst (λ o. IsSome (after_piece (end_of_commands caller cs) (through_piece slots (stage_piece caller chain.max unit (stages_on caller chain) o)))) (sym (first_self wide rest.0)) rest.1)
 
 -- After an event that may stand there the record can be completed.
 pub part_completes : (caller : ℕ) (cs : List Command) (slots : List (Option OpenSlot)) (event : Event) (part : Part) (x : LoggedEvent) → AllByRecursion HasTries cs → PartHasTries part
@@ -209,15 +209,15 @@ pub part_completes : (caller : ℕ) (cs : List Command) (slots : List (Option Op
 part_completes caller cs slots event Alone x t p = commands_complete caller cs slots t
 part_completes caller cs slots event (Submission unit) x t p = commands_complete caller cs (slots ++ opened_slot unit x ∷ []) t
 part_completes caller cs slots event (Aiming unit access) x t p =
-    one_completes (λ o. after_piece (end_from caller cs) (submit_piece slots unit o)) (wide_event unit caller access) (commands_complete caller cs (slots ++ None ∷ []) t)
+    one_completes (λ o. after_piece (end_of_commands caller cs) (submit_piece slots unit o)) (wide_event unit caller access) (commands_complete caller cs (slots ++ None ∷ []) t)
 part_completes caller cs slots event (StageAiming unit rrid chain) x t p =
     aimed_completes caller cs (λ ss. commands_complete caller cs ss t) slots chain unit (wide_event unit caller (record chain.access { rrid = rrid })) (is_aimed x.reply)
 part_completes caller cs slots event (Judging slot left) x t p =
-    judged_completes (λ o. after_piece (end_from caller cs) (settled slots slot o)) (λ r. commands_complete caller cs (closed_by r slot slots) t) x.reply (is_held x.reply) left event
+    judged_completes (λ o. after_piece (end_of_commands caller cs) (settled slots slot o)) (λ r. commands_complete caller cs (closed_by r slot slots) t) x.reply (is_held x.reply) left event
 part_completes caller cs slots event (Polling mask value left) x t p =
     polled_completes caller cs slots (commands_complete caller cs slots t) (hits mask value x.reply) left event mask value
 part_completes caller cs slots event (Stage unit chain) x t p =
     submitted_completes caller cs (λ ss. commands_complete caller cs ss t) slots chain (is_taken x.reply) chain.max (events.Judge unit caller x.place) p
 part_completes caller cs slots event (StageJudging left chain) x t p =
-    judged_completes (λ o. after_piece (end_from caller cs) (through_piece slots (stage_judged (stages_on caller chain) o)))
+    judged_completes (λ o. after_piece (end_of_commands caller cs) (through_piece slots (stage_judged (stages_on caller chain) o)))
     (λ r. following_completes caller cs (λ ss. commands_complete caller cs ss t) slots chain (next_requester r)) x.reply (is_held x.reply) left event

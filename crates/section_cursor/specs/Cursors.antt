@@ -10,7 +10,7 @@ use Rattle.event_words.specs.declared.section.Command.{Command}
 use Rattle.event_words.specs.declared.section.Command.TheVariants.{Settle, Until, Through}
 use Rattle.event_words.specs.Events.{same_event}
 use Rattle.event_words.specs.Sections.{stage_units, is_submit}
-use Rattle.event_words.specs.Records.{OpenSlot, opened_slot, judgements, polls, is_held, is_taken, is_aimed, hits, first_as, wide_event, submit_piece, settled, until_piece, stage_piece, through_stages, stage_judged, through_piece, after_piece, end_from, nothing_left}
+use Rattle.event_words.specs.Records.{OpenSlot, opened_slot, judgements, polls, is_held, is_taken, is_aimed, hits, take_event, wide_event, submit_piece, settled, until_piece, stage_piece, through_stages, stage_judged, through_piece, after_piece, end_of_commands, nothing_left}
 use Rattle.section_cursor.specs.declared.ahead.Chain.{Chain}
 use Rattle.section_cursor.specs.declared.ahead.Part.{Part}
 use Rattle.section_cursor.specs.declared.ahead.Part.TheVariants.{Alone, Submission, Aiming, Judging, Polling, StageAiming, Stage, StageJudging}
@@ -44,25 +44,25 @@ ends_command _ = false
 
 -- How the record ends after the awaited event, which came as this.
 abbrev pub end_after : ℕ → List Command → List (Option OpenSlot) → Event → Part → LoggedEvent → List LoggedEvent → Option SectionEnd
-end_after caller cs slots event Alone x xs = end_from caller cs slots xs
-end_after caller cs slots event (Submission unit) x xs = end_from caller cs (slots ++ opened_slot unit x ∷ []) xs
+end_after caller cs slots event Alone x xs = end_of_commands caller cs slots xs
+end_after caller cs slots event (Submission unit) x xs = end_of_commands caller cs (slots ++ opened_slot unit x ∷ []) xs
 end_after caller cs slots event (Aiming unit access) x xs =
-    after_piece (end_from caller cs) (submit_piece slots unit (first_as (wide_event unit caller access) xs))
+    after_piece (end_of_commands caller cs) (submit_piece slots unit (take_event (wide_event unit caller access) xs))
 end_after caller cs slots event (Judging slot left) x xs =
-    after_piece (end_from caller cs) (settled slots slot (if is_held x.reply && nat_lt 0 left then judgements left event xs else Some (x.reply, xs)))
+    after_piece (end_of_commands caller cs) (settled slots slot (if is_held x.reply && nat_lt 0 left then judgements left event xs else Some (x.reply, xs)))
 end_after caller cs slots event (Polling mask value left) x xs =
-    after_piece (end_from caller cs) (until_piece slots (if not (hits mask value x.reply) && nat_lt 0 left then polls left event mask value xs else Some (hits mask value x.reply, xs)))
+    after_piece (end_of_commands caller cs) (until_piece slots (if not (hits mask value x.reply) && nat_lt 0 left then polls left event mask value xs else Some (hits mask value x.reply, xs)))
 end_after caller cs slots event (StageAiming unit rrid chain) x xs =
-    after_piece (end_from caller cs) (through_piece slots (if is_aimed x.reply then stage_piece caller chain.max unit (stages_on caller chain)
-    (first_as (wide_event unit caller (record chain.access { rrid = rrid })) xs) else Some xs))
+    after_piece (end_of_commands caller cs) (through_piece slots (if is_aimed x.reply then stage_piece caller chain.max unit (stages_on caller chain)
+    (take_event (wide_event unit caller (record chain.access { rrid = rrid })) xs) else Some xs))
 end_after caller cs slots event (Stage unit chain) x xs =
-    after_piece (end_from caller cs) (through_piece slots (if is_taken x.reply then stage_judged (stages_on caller chain) (judgements chain.max (events.Judge unit caller x.place) xs) else Some xs))
+    after_piece (end_of_commands caller cs) (through_piece slots (if is_taken x.reply then stage_judged (stages_on caller chain) (judgements chain.max (events.Judge unit caller x.place) xs) else Some xs))
 end_after caller cs slots event (StageJudging left chain) x xs =
-    after_piece (end_from caller cs) (through_piece slots (stage_judged (stages_on caller chain) (if is_held x.reply && nat_lt 0 left then judgements left event xs else Some (x.reply, xs))))
+    after_piece (end_of_commands caller cs) (through_piece slots (stage_judged (stages_on caller chain) (if is_held x.reply && nat_lt 0 left then judgements left event xs else Some (x.reply, xs))))
 
 -- How the record ends that these events are the rest of.
 abbrev pub end_of_rest : ℕ → List Command → List (Option OpenSlot) → Ahead → List LoggedEvent → Option SectionEnd
-end_of_rest caller cs slots Between xs = end_from caller cs slots xs
+end_of_rest caller cs slots Between xs = end_of_commands caller cs slots xs
 end_of_rest caller cs slots (Awaiting event part) [] = None
 end_of_rest caller cs slots (Awaiting event part) (x ∷ xs) = if same_event event x.event then end_after caller cs slots event part x xs else None
 end_of_rest caller cs slots (Ended end) xs = nothing_left end xs

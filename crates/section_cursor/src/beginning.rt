@@ -5,7 +5,7 @@ ghost use Rattle.event_words.specs.declared.record.LoggedEvent.{LoggedEvent};
 ghost use Rattle.event_words.specs.declared.section.Command.{Command as Commands};
 ghost use Rattle.event_words.specs.Sections.{stage_units, is_submit};
 ghost use Rattle.event_words.specs.Records as records;
-ghost use Rattle.event_words.specs.Records.{judgements, polls, settled, until_piece, stage_judged, through_piece, after_piece, slot_of, end_from};
+ghost use Rattle.event_words.specs.Records.{judgements, polls, settled, until_piece, stage_judged, through_piece, after_piece, slot_of, end_of_commands};
 ghost use Rattle.std.specs.List.{AllByRecursion};
 ghost use Rattle.event_words.specs.Events.{caller_of};
 ghost use Rattle.event_words.specs.Valid.{IsValidAccess, IsValidEvent};
@@ -18,7 +18,7 @@ use event_words::{Access, Command, Event, Stages};
 /// Up to `tries` judgements of an open slot.
 pub(crate) fn judging(slot: u32, event: Event, tries: u32) -> Ahead
     ensures rest { (caller : ℕ) (cs : List Commands) (slots : List (Option records.OpenSlot)) (xs : List LoggedEvent) →
-        end_of_rest caller cs slots result xs ≡ after_piece (end_from caller cs) (settled slots slot (judgements tries event xs)) }
+        end_of_rest caller cs slots result xs ≡ after_piece (end_of_commands caller cs) (settled slots slot (judgements tries event xs)) }
     ensures none { submits result ≡ 0 }
     ensures tries { AheadHasTries result }
     ensures valid { (who : ℕ) → caller_of event ≡ who → IsValidEvent event → IsValidAhead who result }
@@ -38,7 +38,7 @@ pub(crate) fn judging(slot: u32, event: Event, tries: u32) -> Ahead
 /// Up to `tries` reads until one hits.
 pub(crate) fn polling(event: Event, mask: u32, value: u32, tries: u32) -> Ahead
     ensures rest { (caller : ℕ) (cs : List Commands) (slots : List (Option records.OpenSlot)) (xs : List LoggedEvent) →
-        end_of_rest caller cs slots result xs ≡ after_piece (end_from caller cs) (until_piece slots (polls tries event mask value xs)) }
+        end_of_rest caller cs slots result xs ≡ after_piece (end_of_commands caller cs) (until_piece slots (polls tries event mask value xs)) }
     ensures none { submits result ≡ 0 }
     ensures tries { AheadHasTries result }
     ensures valid { (who : ℕ) → caller_of event ≡ who → IsValidEvent event → IsValidAhead who result }
@@ -59,7 +59,7 @@ pub(crate) fn polling(event: Event, mask: u32, value: u32, tries: u32) -> Ahead
 /// Up to `tries` judgements of a stage's submission, and the stages after it.
 pub(crate) fn stage_judging(event: Event, tries: u32, chain: Chain) -> Ahead
     ensures rest { (caller : ℕ) (cs : List Commands) (slots : List (Option records.OpenSlot)) (xs : List LoggedEvent) →
-        end_of_rest caller cs slots result xs ≡ after_piece (end_from caller cs) (through_piece slots (stage_judged (stages_on caller chain) (judgements tries event xs))) }
+        end_of_rest caller cs slots result xs ≡ after_piece (end_of_commands caller cs) (through_piece slots (stage_judged (stages_on caller chain) (judgements tries event xs))) }
     ensures none { submits result ≡ 0 }
     ensures tries { 1 ≤ chain.max → AheadHasTries result }
     ensures valid { (who : ℕ) → caller_of event ≡ who → IsValidEvent event → IsValidChain chain → IsValidAhead who result }
@@ -136,7 +136,7 @@ pub(crate) fn wide_event(caller: u8, unit: u8, access: Access) -> Event
 fn stage(caller: u8, unit: u8, access: Access, chain: Chain) -> Ahead
     requires { access ≡ record chain.access { rrid = access.rrid } }
     ensures rest { (cs : List Commands) (slots : List (Option records.OpenSlot)) (xs : List LoggedEvent) →
-        end_of_rest caller cs slots result xs ≡ after_piece (end_from caller cs) (through_piece slots (records.one_stage caller chain.max unit access (stages_on caller chain) xs)) }
+        end_of_rest caller cs slots result xs ≡ after_piece (end_of_commands caller cs) (through_piece slots (records.one_stage caller chain.max unit access (stages_on caller chain) xs)) }
     ensures none { submits result ≡ 0 }
     ensures tries { 1 ≤ chain.max → AheadHasTries result }
     ensures valid { caller < 32 → unit < 4 → access.rrid ≤ 63 → IsValidChain chain → IsValidAhead caller result }
@@ -160,7 +160,7 @@ fn stage(caller: u8, unit: u8, access: Access, chain: Chain) -> Ahead
 /// Stages, the first of which bears this requester.
 pub(crate) fn passing(caller: u8, chain: Chain, rrid: u8) -> Ahead
     ensures rest { (cs : List Commands) (slots : List (Option records.OpenSlot)) (xs : List LoggedEvent) →
-        end_of_rest caller cs slots result xs ≡ after_piece (end_from caller cs) (through_piece slots (stages_on caller chain rrid xs)) }
+        end_of_rest caller cs slots result xs ≡ after_piece (end_of_commands caller cs) (through_piece slots (stages_on caller chain rrid xs)) }
     ensures none { submits result ≡ 0 }
     ensures tries { 1 ≤ chain.max → AheadHasTries result }
     ensures valid { caller < 32 → rrid ≤ 63 → IsValidChain chain → IsValidAhead caller result }
@@ -191,7 +191,7 @@ fn slot_of(slots: &[Option<OpenSlot>], slot: u32) -> Option<OpenSlot>
 /// Up to `tries` judgements of a slot, and none where it isn't open.
 fn settling(caller: u8, slots: &[Option<OpenSlot>], slot: u32, tries: u32) -> Ahead
     ensures rest { (cs : List Commands) (xs : List LoggedEvent) →
-        end_of_rest caller cs slots.now result xs ≡ after_piece (end_from caller cs) (records.settle_piece caller tries slots.now slot (slot_of slots.now slot) xs) }
+        end_of_rest caller cs slots.now result xs ≡ after_piece (end_of_commands caller cs) (records.settle_piece caller tries slots.now slot (slot_of slots.now slot) xs) }
     ensures none { submits result ≡ 0 }
     ensures tries { AheadHasTries result }
     ensures valid { caller < 32 → AllByRecursion IsValidSlot slots.now → IsValidAhead caller result }
@@ -230,7 +230,7 @@ fn read_event(caller: u8, unit: u8, index: u32) -> Event
 
 fn alone(event: Event) -> Ahead
     ensures rest { (caller : ℕ) (cs : List Commands) (slots : List (Option records.OpenSlot)) (xs : List LoggedEvent) →
-        end_of_rest caller cs slots result xs ≡ after_piece (end_from caller cs) (records.one_piece slots (records.first_as event xs)) }
+        end_of_rest caller cs slots result xs ≡ after_piece (end_of_commands caller cs) (records.one_piece slots (records.take_event event xs)) }
     ensures none { submits result ≡ 0 }
     ensures tries { AheadHasTries result }
     ensures valid { (who : ℕ) → caller_of event ≡ who → IsValidEvent event → IsValidAhead who result }
@@ -243,7 +243,7 @@ fn alone(event: Event) -> Ahead
 
 fn submitting(unit: u8, event: Event) -> Ahead
     ensures rest { (caller : ℕ) (cs : List Commands) (slots : List (Option records.OpenSlot)) (xs : List LoggedEvent) →
-        end_of_rest caller cs slots result xs ≡ after_piece (end_from caller cs) (records.submit_piece slots unit (records.first_as event xs)) }
+        end_of_rest caller cs slots result xs ≡ after_piece (end_of_commands caller cs) (records.submit_piece slots unit (records.take_event event xs)) }
     ensures one { submits result ≡ 1 }
     ensures tries { AheadHasTries result }
     ensures valid { (who : ℕ) → caller_of event ≡ who → IsValidEvent event → unit < 4 → IsValidAhead who result }
@@ -257,8 +257,8 @@ fn submitting(unit: u8, event: Event) -> Ahead
 /// The Aim of a submission, whose Wide follows.
 fn aiming(caller: u8, unit: u8, access: Access) -> Ahead
     ensures rest { (cs : List Commands) (slots : List (Option records.OpenSlot)) (xs : List LoggedEvent) →
-        end_of_rest caller cs slots result xs ≡ after_piece (end_from caller cs)
-        (records.submit_piece slots unit (records.second_as (records.wide_event unit caller access) (records.first_as (events.Aim caller access.addr) xs))) }
+        end_of_rest caller cs slots result xs ≡ after_piece (end_of_commands caller cs)
+        (records.submit_piece slots unit (records.take_event_after (records.wide_event unit caller access) (records.take_event (events.Aim caller access.addr) xs))) }
     ensures one { submits result ≡ 1 }
     ensures tries { AheadHasTries result }
     ensures valid { caller < 32 → unit < 4 → IsValidAccess access → IsValidAhead caller result }
@@ -272,7 +272,7 @@ fn aiming(caller: u8, unit: u8, access: Access) -> Ahead
 /// A submission of one event or two.
 fn submitting_access(caller: u8, unit: u8, access: Access) -> Ahead
     ensures rest { (cs : List Commands) (slots : List (Option records.OpenSlot)) (xs : List LoggedEvent) →
-        end_of_rest caller cs slots result xs ≡ after_piece (end_from caller cs) (records.submit_piece slots unit (records.submission_as unit caller access xs)) }
+        end_of_rest caller cs slots result xs ≡ after_piece (end_of_commands caller cs) (records.submit_piece slots unit (records.take_submission unit caller access xs)) }
     ensures one { submits result ≡ 1 }
     ensures tries { AheadHasTries result }
     ensures valid { caller < 32 → unit < 4 → IsValidAccess access → IsValidAhead caller result }
@@ -285,7 +285,7 @@ fn submitting_access(caller: u8, unit: u8, access: Access) -> Ahead
 
 /// What a command begins with: `Between` where it makes no event.
 pub(crate) fn begun_with(caller: u8, command: &Command, slots: &[Option<OpenSlot>]) -> Ahead
-    ensures rest { (cs : List Commands) (xs : List LoggedEvent) → end_of_rest caller cs slots.now result xs ≡ end_from caller (command.now ∷ cs) slots.now xs }
+    ensures rest { (cs : List Commands) (xs : List LoggedEvent) → end_of_rest caller cs slots.now result xs ≡ end_of_commands caller (command.now ∷ cs) slots.now xs }
     ensures submits { submits result ≡ (if is_submit command.now then 1 else 0) }
     ensures tries { HasTries command.now → AheadHasTries result }
     ensures valid { caller < 32 → AllByRecursion IsValidSlot slots.now → IsPlayable command.now → IsValidAhead caller result }

@@ -4,7 +4,7 @@ ghost use Rattle.event_words.specs.declared.event.Event.{Event as Events};
 ghost use Rattle.event_words.specs.declared.record.LoggedEvent.{LoggedEvent as Logged};
 ghost use Rattle.event_words.specs.declared.section.Command.{Command};
 ghost use Rattle.event_words.specs.Records as records;
-ghost use Rattle.event_words.specs.Records.{closed_by, opened_slot, hits, until_piece, stage_judged, through_piece, after_piece, end_from};
+ghost use Rattle.event_words.specs.Records.{closed_by, opened_slot, hits, until_piece, stage_judged, through_piece, after_piece, end_of_commands};
 ghost use Rattle.section_cursor.specs.declared.ahead.Part.TheVariants as parts;
 ghost use Rattle.std.specs.List.{AllByRecursion};
 ghost use Rattle.event_words.specs.Events.{caller_of};
@@ -42,7 +42,7 @@ fn close(reply: &Reply, slot: u32, slots: &mut [Option<OpenSlot>])
 /// After the last read of those that are repeated until one hits.
 fn after_polls(mask: u32, value: u32, logged: &LoggedEvent) -> Ahead
     ensures rest { (caller : ℕ) (cs : List Command) (slots : List (Option records.OpenSlot)) (xs : List Logged) →
-        end_of_rest caller cs slots result xs ≡ after_piece (end_from caller cs) (until_piece slots (Some (hits mask value logged.now.reply, xs))) }
+        end_of_rest caller cs slots result xs ≡ after_piece (end_of_commands caller cs) (until_piece slots (Some (hits mask value logged.now.reply, xs))) }
     ensures none { submits result ≡ 0 }
     ensures tries { AheadHasTries result }
     ensures valid { (who : ℕ) → IsValidAhead who result }
@@ -112,7 +112,7 @@ fn after_stage(caller: u8, unit: u8, chain: Chain, logged: &LoggedEvent) -> Ahea
 /// After the last judgement of a stage's submission.
 fn after_stage_judgements(caller: u8, chain: Chain, logged: &LoggedEvent) -> Ahead
     ensures rest { (cs : List Command) (slots : List (Option records.OpenSlot)) (xs : List Logged) →
-        end_of_rest caller cs slots result xs ≡ after_piece (end_from caller cs) (through_piece slots (stage_judged (stages_on caller chain) (Some (logged.now.reply, xs)))) }
+        end_of_rest caller cs slots result xs ≡ after_piece (end_of_commands caller cs) (through_piece slots (stage_judged (stages_on caller chain) (Some (logged.now.reply, xs)))) }
     ensures none { submits result ≡ 0 }
     ensures tries { 1 ≤ chain.max → AheadHasTries result }
     ensures valid { caller < 32 → IsValidChain chain → IsValidAhead caller result }
@@ -135,7 +135,7 @@ pub(crate) fn ends_command(
     requires room { vec_len slots.old + part_submits part.now ≤ vec_capacity slots.old }
     ensures ends { result ≡ ends_command part.now }
     ensures rest { ends_command part.now ≡ true → (caller : ℕ) (event : Events) (cs : List Command) (xs : List Logged) →
-        end_from caller cs slots.new.items xs ≡ end_after caller cs slots.old.items event part.now logged.now xs }
+        end_of_commands caller cs slots.new.items xs ≡ end_after caller cs slots.old.items event part.now logged.now xs }
     ensures count { ends_command part.now ≡ true → vec_len slots.new ≡ vec_len slots.old + part_submits part.now }
     ensures same { ends_command part.now ≡ false → slots.new ≡ slots.old }
     ensures capacity { vec_capacity slots.new ≡ vec_capacity slots.old }

@@ -1,6 +1,6 @@
 -- How a caller goes on by one word.
 use Rattle.std.proofs.Common.{◌≡◌, ◌≢◌, ℕ, ◌+◌, ◌*◌, ◌<◌, ◌≤◌, List, [], ◌∷◌, ◌++◌, length, refl, sym, ap, ◌∙◌, subst, arith, length-append, append_assoc, append-nil}
-use Rattle.event_words.specs.Runs.{bearer, run}
+use Rattle.event_words.specs.Runs.{caller_of_word, run}
 use Rattle.event_words.proofs.Runs.{run-snoc}
 use Rattle.event_words.specs.declared.reply.Reply.{Reply}
 use Rattle.atomic_table.specs.Seated.{TableId}
@@ -57,7 +57,7 @@ module _ {M S : Type 0} (state : M → S) (next_place places : M → ℕ) (after
       }
 
   -- another caller's word more
-  pub word_of_others_more : {c : CallerView M S} (table : TableId) (v : SeatView) (left : ℕ) (m : M) (f : S) → AfterOthers c (caller_view table v left m f) → (x : ℕ) (v' : SeatView) (table' : TableId) (m' : M) → v' ≡ with_word v x → bearer x ≢ v.number → table' ≡ table
+  pub word_of_others_more : {c : CallerView M S} (table : TableId) (v : SeatView) (left : ℕ) (m : M) (f : S) → AfterOthers c (caller_view table v left m f) → (x : ℕ) (v' : SeatView) (table' : TableId) (m' : M) → v' ≡ with_word v x → caller_of_word x ≢ v.number → table' ≡ table
       → AfterOthers c (caller_view table' v' left m' f)
   word_of_others_more {c} table v left m f h x v' table' m' e not same =
       let log : v'.log ≡ v.log ++ x ∷ [] = ap (λ (u : SeatView). u.log) e in record {

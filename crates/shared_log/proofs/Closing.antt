@@ -21,7 +21,7 @@ pub finishes : (C B : ℕ) (words : List ℕ) (views : List SeatView) → IsShar
     → (ws result : List ℕ) → words ≡ ws → result ≡ words_before_zero ws → Finished result v
 finishes C B words views r id v at live is_first ws result same is =
     let q = r.seated id v at live in
-    let log : result ≡ r.log = is ∙ ap words_before_zero (sym same ∙ r.words_are) ∙ words_before_zero-log r.log r.free r.events in
+    let log : result ≡ r.log = is ∙ ap words_before_zero (sym same ∙ r.words_are) ∙ words_before_zero-log r.log r.empty_words r.events in
     subst (λ (l : List ℕ). Finished l v) (sym log) record {
       events = r.events;
       first = subst (λ (k : ℕ). BeginsWithLog k r.log v.log) is_first q.has;

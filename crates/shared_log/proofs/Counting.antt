@@ -2,7 +2,7 @@
 use Rattle.std.proofs.Common.{◌≡◌, ◌≢◌, ℕ, zero, suc, ◌+◌, ◌*◌, ◌<◌, ◌≤◌, eq-eqb, ne_eqb, cond, Bool, List, [], ◌∷◌, length, refl, sym, ap, ◌∙◌, subst, arith, suc-mul, lt_of_not-le}
 use mathlib.Core.Logic.{dite}
 use native.Mathlib.Decide.{ℕ_discrete, dec_le}
-use Rattle.event_words.specs.Runs.{bearer}
+use Rattle.event_words.specs.Runs.{caller_of_word}
 use Rattle.shared_log.specs.Words.{words_by}
 
 pub sum_to : ℕ → (ℕ → ℕ) → ℕ
@@ -39,33 +39,33 @@ sum_to-strict (suc n) B k f h lt less = let m = suc-mul n B in let q = h n in di
     (λ is. let r = sum_to-bound n B f h in let p : f n < B = subst (λ (z : ℕ). f z < B) (sym is) less in omega arith)
     (λ not. let r = sum_to-strict n B k f h (omega arith) less in omega arith)
 
-pub words-own : (c w : ℕ) (ws : List ℕ) → bearer w ≡ c → words_by c (w ∷ ws) ≡ w ∷ words_by c ws
-words-own c w ws is = ap (λ (t : Bool). cond t (w ∷ words_by c ws) (words_by c ws)) (eq-eqb (bearer w) c is)
+pub words-own : (c w : ℕ) (ws : List ℕ) → caller_of_word w ≡ c → words_by c (w ∷ ws) ≡ w ∷ words_by c ws
+words-own c w ws is = ap (λ (t : Bool). cond t (w ∷ words_by c ws) (words_by c ws)) (eq-eqb (caller_of_word w) c is)
 
-pub words-other : (c w : ℕ) (ws : List ℕ) → bearer w ≢ c → words_by c (w ∷ ws) ≡ words_by c ws
-words-other c w ws not = ap (λ (t : Bool). cond t (w ∷ words_by c ws) (words_by c ws)) (ne_eqb (bearer w) c not)
+pub words-other : (c w : ℕ) (ws : List ℕ) → caller_of_word w ≢ c → words_by c (w ∷ ws) ≡ words_by c ws
+words-other c w ws not = ap (λ (t : Bool). cond t (w ∷ words_by c ws) (words_by c ws)) (ne_eqb (caller_of_word w) c not)
 
 abbrev counts : List ℕ → ℕ → ℕ
 counts ws c = length (words_by c ws)
 
-below : (n w : ℕ) (ws : List ℕ) → ((c : ℕ) → n ≤ c → words_by c (w ∷ ws) ≡ []) → Dec (n ≤ bearer w) → bearer w < n
-below n w ws none (yes h) = let e : w ∷ words_by (bearer w) ws ≡ [] = sym (words-own (bearer w) w ws refl) ∙ none (bearer w) h in cc
+below : (n w : ℕ) (ws : List ℕ) → ((c : ℕ) → n ≤ c → words_by c (w ∷ ws) ≡ []) → Dec (n ≤ caller_of_word w) → caller_of_word w < n
+below n w ws none (yes h) = let e : w ∷ words_by (caller_of_word w) ws ≡ [] = sym (words-own (caller_of_word w) w ws refl) ∙ none (caller_of_word w) h in cc
 below n w ws none (no h) = lt_of_not-le h
 
-tail_none : (n w : ℕ) (ws : List ℕ) → bearer w < n → ((c : ℕ) → n ≤ c → words_by c (w ∷ ws) ≡ []) → (c : ℕ) → n ≤ c → words_by c ws ≡ []
+tail_none : (n w : ℕ) (ws : List ℕ) → caller_of_word w < n → ((c : ℕ) → n ≤ c → words_by c (w ∷ ws) ≡ []) → (c : ℕ) → n ≤ c → words_by c ws ≡ []
 tail_none n w ws lt none c h = sym (words-other c w ws (λ e. omega arith)) ∙ none c h
 
 -- where no other number is borne, all words are those of 0
 pub only_first : (ws : List ℕ) → ((c : ℕ) → 1 ≤ c → words_by c ws ≡ []) → words_by 0 ws ≡ ws
 only_first [] none = refl
-only_first (w ∷ ws) none = let lt = below 1 w ws none (dec_le 1 (bearer w)) in
+only_first (w ∷ ws) none = let lt = below 1 w ws none (dec_le 1 (caller_of_word w)) in
     words-own 0 w ws (omega arith) ∙ ap (λ (l : List ℕ). w ∷ l) (only_first ws (tail_none 1 w ws lt none))
 
 pub counted : (n : ℕ) (ws : List ℕ) → ((c : ℕ) → n ≤ c → words_by c ws ≡ []) → length ws ≡ sum_to n (counts ws)
 counted n [] none = sym (sum_to-zero n)
-counted n (w ∷ ws) none = let lt = below n w ws none (dec_le n (bearer w)) in
+counted n (w ∷ ws) none = let lt = below n w ws none (dec_le n (caller_of_word w)) in
     let r = counted n ws (tail_none n w ws lt none) in
-    let m = sum_to-more n (bearer w) (counts ws) (counts (w ∷ ws)) lt (let e = ap length (words-own (bearer w) w ws refl) in omega arith) (λ c not. ap length (words-other c w ws (λ e. not (sym e)))) in omega arith
+    let m = sum_to-more n (caller_of_word w) (counts ws) (counts (w ∷ ws)) lt (let e = ap length (words-own (caller_of_word w) w ws refl) in omega arith) (λ c not. ap length (words-other c w ws (λ e. not (sym e)))) in omega arith
 
 pub at_most : (n B : ℕ) (ws : List ℕ) → ((c : ℕ) → n ≤ c → words_by c ws ≡ []) → ((c : ℕ) → length (words_by c ws) ≤ B) → length ws ≤ n * B
 at_most n B ws none h = let e = counted n ws none in let r = sum_to-bound n B (counts ws) h in omega arith

@@ -28,11 +28,11 @@ ends room ws n r w e =
     let d : words_before_zero (drop n ws) ≡ [] = ap (λ (k : ℕ). words_before_zero (drop k ws)) w ∙ ap words_before_zero (drop-length ws) in
     sym t ∙ sym (append-nil (take n room)) ∙ ap (λ (l : List ℕ). take n room ++ l) (sym d) ∙ e
 
-words_before_zero-zeros : (free : ℕ) → words_before_zero (replicate free zero) ≡ []
+words_before_zero-zeros : (empty_words : ℕ) → words_before_zero (replicate empty_words zero) ≡ []
 words_before_zero-zeros zero = refl
 words_before_zero-zeros (suc n) = refl
 
 -- what was copied is the log
-pub words_before_zero-log : (log : List ℕ) (free : ℕ) → AllEventWords log → words_before_zero (log ++ replicate free zero) ≡ log
-words_before_zero-log [] free all = words_before_zero-zeros free
-words_before_zero-log (w ∷ ws) free all = words_before_zero-cons w (ws ++ replicate free zero) (word-nonzero w all.0) ∙ ap (λ (l : List ℕ). w ∷ l) (words_before_zero-log ws free all.1)
+pub words_before_zero-log : (log : List ℕ) (empty_words : ℕ) → AllEventWords log → words_before_zero (log ++ replicate empty_words zero) ≡ log
+words_before_zero-log [] empty_words all = words_before_zero-zeros empty_words
+words_before_zero-log (w ∷ ws) empty_words all = words_before_zero-cons w (ws ++ replicate empty_words zero) (word-nonzero w all.0) ∙ ap (λ (l : List ℕ). w ∷ l) (words_before_zero-log ws empty_words all.1)

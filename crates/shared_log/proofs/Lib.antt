@@ -1,7 +1,7 @@
 pub mod Counting
 pub mod WordLists
 pub mod RuleKept
-pub mod Steps
+pub mod LogSteps
 pub mod Callers
 pub mod Gathers
 pub mod Closing

@@ -7,7 +7,7 @@ use native.Mathlib.Decide.{ℕ_discrete, dec_le}
 use lib.ListN.{get_elem?}
 use Rattle.atomic_table.proofs.Lists.{at_set, set_else}
 use Rattle.shared_log.specs.declared.seat_view.SeatView.{SeatView}
-use Rattle.event_words.specs.Runs.{bearer, IsEventWord}
+use Rattle.event_words.specs.Runs.{caller_of_word, IsEventWord}
 use Rattle.shared_log.specs.Words.{words_by, AllEventWords, BeginsWithLog}
 use Rattle.shared_log.specs.SeatViews.{IsSeatView, with_word, with_caller, new_caller, with_joined_log, spent_view}
 use Rattle.shared_log.specs.Rule.{IsCallerSeat, IsSharedLog}
@@ -16,7 +16,7 @@ use Rattle.shared_log.proofs.WordLists.{at_end, set-behind, append-none-right, A
 
 module _ (C B : ℕ) where
   -- another caller's word more
-  has-more : (c : ℕ) (log l : List ℕ) (w : ℕ) → BeginsWithLog c log l → bearer w ≢ c → BeginsWithLog c (log ++ w ∷ []) l
+  has-more : (c : ℕ) (log l : List ℕ) (w : ℕ) → BeginsWithLog c log l → caller_of_word w ≢ c → BeginsWithLog c (log ++ w ∷ []) l
   has-more c log l w h not = record {
     rest = h.rest ++ w ∷ [];
     begins = ap (λ (k : List ℕ). k ++ w ∷ []) h.begins ∙ append_assoc l h.rest (w ∷ []);
@@ -55,12 +55,12 @@ module _ (C B : ℕ) where
   pub replaced : (words : List ℕ) (views : List SeatView) (r : IsSharedLog C B words views) (id : ℕ) (v : SeatView) → (v.live ≡ true → IsCallerSeat C B r.log r.seat r.made r.joined id v) → IsSharedLog C B words (set views id v)
   replaced words views r id v q = record {
     log = r.log;
-    free = r.free;
+    empty_words = r.empty_words;
     seat = r.seat;
     made = r.made;
     joined = r.joined;
     words_are = r.words_are;
-    total = r.total;
+    word_count = r.word_count;
     events = r.events;
     few = r.few;
     within = r.within;
@@ -78,7 +78,7 @@ module _ (C B : ℕ) where
 
   -- the next word is empty: it becomes the caller's own
   pub won : (words : List ℕ) (views : List SeatView) (r : IsSharedLog C B words views) (id : ℕ) (v : SeatView) → get_elem? views id ≡ some v → (live : v.live ≡ true) (q : IsCallerSeat C B r.log r.seat r.made r.joined id v) → q.has.rest ≡ []
-      → (w : ℕ) → bearer w ≡ v.number → IsEventWord w → length (words_by v.number v.log) < B
+      → (w : ℕ) → caller_of_word w ≡ v.number → IsEventWord w → length (words_by v.number v.log) < B
       → IsSharedLog C B (set words (length v.log) w) (set views id (with_word v w))
   won words views r id v at live q over w mine event less =
       let same : r.log ≡ v.log = q.has.begins ∙ ap (λ (l : List ℕ). v.log ++ l) over ∙ append-nil v.log in
@@ -86,22 +86,22 @@ module _ (C B : ℕ) where
       let bud = q.budget_is in
       let room : length v.log < C * B = let h = view_kept words views r id v at live in let m = room_of v h v.number h.number (omega arith) in omega arith in
       let long : length r.log ≡ length v.log = ap length same in
-      let f : ℕ = r.free - 1 in
-      let one : r.free ≡ suc f = let t = r.total in omega arith in
+      let f : ℕ = r.empty_words - 1 in
+      let one : r.empty_words ≡ suc f = let t = r.word_count in omega arith in
       let laid : words ≡ v.log ++ 0 ∷ replicate f 0 = r.words_are ∙ ap (λ (k : ℕ). r.log ++ replicate k 0) one ∙ ap (λ (l : List ℕ). l ++ 0 ∷ replicate f 0) same in
       let below = number_made words views r v.number id q.seat_is in
       let fewer : length (words_by v.number r.log) < B = subst (λ (l : List ℕ). length (words_by v.number l) < B) (sym same) less in
       record {
         log = r.log ++ w ∷ [];
-        free = f;
+        empty_words = f;
         seat = r.seat;
         made = r.made;
         joined = r.joined;
         words_are = ap (λ (l : List ℕ). set l (length v.log) w) laid ∙ set-behind v.log 0 w (replicate f 0) ∙ sym (append_assoc v.log (w ∷ []) (replicate f 0)) ∙ ap (λ (l : List ℕ). (l ++ w ∷ []) ++ replicate f 0) (sym same);
-        total = let t = r.total in omega (arith, length-append r.log (w ∷ []));
+        word_count = let t = r.word_count in omega (arith, length-append r.log (w ∷ []));
         events = AllEventWords-append r.log (w ∷ []) r.events (event, tt);
         few = r.few;
-        within = λ c. dite (ℕ_discrete (bearer w) c)
+        within = λ c. dite (ℕ_discrete (caller_of_word w) c)
             (λ is. let m : length (words_by c r.log) < B = subst (λ (z : ℕ). length (words_by z r.log) < B) (sym mine ∙ is) fewer in let k = words-snoc-length c r.log w in omega arith)
             (λ not. let k = ap length (words-snoc-other c r.log w not) in let m = r.within c in omega arith);
         unmade = λ c h. let u = r.unmade c h in (words-snoc-other c r.log w (λ e. omega arith) ∙ u.0, u.1);
@@ -139,7 +139,7 @@ module _ (C B : ℕ) where
     };
   })
 
-  pub not_own : (words : List ℕ) (views : List SeatView) (r : IsSharedLog C B words views) (id : ℕ) (v : SeatView) (q : IsCallerSeat C B r.log r.seat r.made r.joined id v) (x : ℕ) (xs : List ℕ) → q.has.rest ≡ x ∷ xs → bearer x ≢ v.number
+  pub not_own : (words : List ℕ) (views : List SeatView) (r : IsSharedLog C B words views) (id : ℕ) (v : SeatView) (q : IsCallerSeat C B r.log r.seat r.made r.joined id v) (x : ℕ) (xs : List ℕ) → q.has.rest ≡ x ∷ xs → caller_of_word x ≢ v.number
   not_own words views r id v q x xs more is = let e : x ∷ words_by v.number xs ≡ [] = sym (words-own v.number x xs is) ∙ ap (words_by v.number) (sym more) ∙ q.has.no_more in cc
 
   -- one caller more
@@ -162,12 +162,12 @@ module _ (C B : ℕ) where
       let seat' : ℕ → Option ℕ = seat_more r.seat r.made n in
       record {
         log = r.log;
-        free = r.free;
+        empty_words = r.empty_words;
         seat = seat';
         made = r.made + 1;
         joined = r.joined;
         words_are = r.words_are;
-        total = r.total;
+        word_count = r.word_count;
         events = r.events;
         within = r.within;
         few = omega arith;
@@ -230,12 +230,12 @@ module _ (C B : ℕ) where
       let joined' : List (List ℕ) = r.joined ++ u.log ∷ [] in
       record {
         log = r.log;
-        free = r.free;
+        empty_words = r.empty_words;
         seat = seat';
         made = r.made;
         joined = joined';
         words_are = r.words_are;
-        total = r.total;
+        word_count = r.word_count;
         events = r.events;
         within = r.within;
         few = r.few;

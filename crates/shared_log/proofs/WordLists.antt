@@ -1,7 +1,7 @@
 -- Lists of words.
 use Rattle.std.proofs.Common.{◌≡◌, ◌≢◌, ℕ, zero, suc, ◌+◌, ◌<◌, ◌≤◌, ◌⊎◌, ⊎_elim, inl, inr, eqb, List, [], ◌∷◌, ◌++◌, length, get_or, set, refl, sym, ap, ◌∙◌, arith, length-append, append-nil}
 use Rattle.std.proofs.lemmas.List.Elements.{filter-append}
-use Rattle.event_words.specs.Runs.{bearer}
+use Rattle.event_words.specs.Runs.{caller_of_word}
 use Rattle.shared_log.specs.Words.{words_by, AllEventWords}
 use Rattle.shared_log.proofs.Counting.{words-own, words-other}
 use mathlib.Core.Logic.{dite}
@@ -59,7 +59,7 @@ AllEventWords-right [] ys p = p
 AllEventWords-right (x ∷ xs) ys p = AllEventWords-right xs ys p.1
 
 pub words-append : (c : ℕ) (xs ys : List ℕ) → words_by c (xs ++ ys) ≡ words_by c xs ++ words_by c ys
-words-append c xs ys = filter-append (λ w. eqb (bearer w) c) xs ys
+words-append c xs ys = filter-append (λ w. eqb (caller_of_word w) c) xs ys
 
 pub words-prefix-none : (c : ℕ) (xs ys : List ℕ) → words_by c (xs ++ ys) ≡ [] → words_by c xs ≡ []
 words-prefix-none c xs ys e = append-none-left (words_by c xs) (words_by c ys) (sym (words-append c xs ys) ∙ e)
@@ -68,13 +68,13 @@ pub words-prefix-length : (c : ℕ) (xs ys : List ℕ) → length (words_by c xs
 words-prefix-length c xs ys = omega (arith, ap length (words-append c xs ys), length-append (words_by c xs) (words_by c ys))
 
 -- a word of another caller more
-pub words-snoc-other : (c : ℕ) (xs : List ℕ) (w : ℕ) → bearer w ≢ c → words_by c (xs ++ w ∷ []) ≡ words_by c xs
+pub words-snoc-other : (c : ℕ) (xs : List ℕ) (w : ℕ) → caller_of_word w ≢ c → words_by c (xs ++ w ∷ []) ≡ words_by c xs
 words-snoc-other c xs w not = words-append c xs (w ∷ []) ∙ ap (λ (l : List ℕ). words_by c xs ++ l) (words-other c w [] not) ∙ append-nil (words_by c xs)
 
-pub words-snoc-own : (c : ℕ) (xs : List ℕ) (w : ℕ) → bearer w ≡ c → words_by c (xs ++ w ∷ []) ≡ words_by c xs ++ w ∷ []
+pub words-snoc-own : (c : ℕ) (xs : List ℕ) (w : ℕ) → caller_of_word w ≡ c → words_by c (xs ++ w ∷ []) ≡ words_by c xs ++ w ∷ []
 words-snoc-own c xs w is = words-append c xs (w ∷ []) ∙ ap (λ (l : List ℕ). words_by c xs ++ l) (words-own c w [] is)
 
 pub words-snoc-length : (c : ℕ) (xs : List ℕ) (w : ℕ) → length (words_by c (xs ++ w ∷ [])) ≤ length (words_by c xs) + 1
-words-snoc-length c xs w = dite (ℕ_discrete (bearer w) c)
+words-snoc-length c xs w = dite (ℕ_discrete (caller_of_word w) c)
     (λ is. omega (arith, ap length (words-snoc-own c xs w is), length-append (words_by c xs) (w ∷ [])))
     (λ not. omega (arith, ap length (words-snoc-other c xs w not)))

@@ -1,7 +1,7 @@
 pub mod Words
 pub mod SeatViews
 pub mod Rule
-pub mod Steps
+pub mod Exchanges
 pub mod Callers
 pub mod OwnEvents
 pub mod Histories

@@ -17,12 +17,12 @@ pub record IsCallerSeat (callers budget : ℕ) (log : List ℕ) (seat : ℕ → 
 -- `made` callers were made so far. `joined` has the logs of the callers 1, 2 and so on that were joined.
 pub record IsSharedLog (callers budget : ℕ) (words : List ℕ) (views : List SeatView) : Type 0 where
   pub log : List ℕ
-  pub free : ℕ
+  pub empty_words : ℕ
   pub seat : ℕ → Option ℕ
   pub made : ℕ
   pub joined : List (List ℕ)
-  pub words_are : words ≡ log ++ replicate free 0
-  pub total : length log + free ≡ callers * budget
+  pub words_are : words ≡ log ++ replicate empty_words 0
+  pub word_count : length log + empty_words ≡ callers * budget
   pub events : AllEventWords log
   pub few : made ≤ callers
   pub within : (c : ℕ) → length (words_by c log) ≤ budget

@@ -1,11 +1,11 @@
 -- Lists of event words.
 use Rattle.std.specs.Prelude.{◌≡◌, ℕ, zero, suc, ◌==◌, List, [], ◌∷◌, ◌++◌, filter}
 use Rattle.std.specs.List.{AllByRecursion}
-use Rattle.event_words.specs.Runs.{bearer, IsEventWord}
+use Rattle.event_words.specs.Runs.{caller_of_word, IsEventWord}
 
 -- the words of one caller, in their order
 abbrev pub words_by : ℕ → List ℕ → List ℕ
-words_by c words = filter (λ w. bearer w == c) words
+words_by c words = filter (λ w. caller_of_word w == c) words
 
 abbrev pub AllEventWords : List ℕ → Type 0
 AllEventWords words = AllByRecursion IsEventWord words

@@ -25,7 +25,7 @@ impl TableRule<(), SeatView, LogSize> for LogRule {
 pub struct AppendWord;
 
 impl Play<(), SeatView> for AppendWord {
-    ghost use Rattle.shared_log.specs.Steps.{Exchanges};
+    ghost use Rattle.shared_log.specs.Exchanges.{Exchanges};
 
     ghost then = { Exchanges };
 }
@@ -34,7 +34,7 @@ impl Play<(), SeatView> for AppendWord {
 pub struct ReadBack;
 
 impl Play<(), SeatView> for ReadBack {
-    ghost use Rattle.shared_log.specs.Steps.{ReadsBack};
+    ghost use Rattle.shared_log.specs.Exchanges.{ReadsBack};
 
     ghost then = { ReadsBack };
 }

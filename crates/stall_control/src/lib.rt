@@ -24,7 +24,7 @@ pub struct StallState {
     rrids: u8,
     flags: [bool; 64],
     counts: [u32; 64],
-    waiting: u8,
+    draining: u8,
 }
 
 impl Model for StallState {
@@ -35,7 +35,7 @@ impl Model for StallState {
 
     ghost view = { λ s. record { flags = take s.rrids s.flags; counts = take s.rrids s.counts } };
 
-    ghost invariant = { λ s. (s.rrids ≤ 64) × (s.waiting ≡ busy_count (take s.rrids s.flags) (take s.rrids s.counts)) };
+    ghost invariant = { λ s. (s.rrids ≤ 64) × (s.draining ≡ busy_count (take s.rrids s.flags) (take s.rrids s.counts)) };
 }
 
 /// The domains that a write of MDSTALL selects, as a mask that has bit m for domain m: up to 30 by bit
@@ -56,7 +56,7 @@ fn is_among(regs: &Regs, shape: &Shape, domains: u64, rrid: u8) -> bool
 }
 
 /// 1 for a requester that is stalled and has a transaction in flight, else 0.
-fn waiting_at(stalled: bool, count: u32) -> u8
+fn draining_at(stalled: bool, count: u32) -> u8
     ensures value { result ≡ one (stalled && not (count == 0)) }
     ensures small { result ≤ 1 }
 {
@@ -74,13 +74,13 @@ fn set_flags(regs: &Regs, value: u32, flags: &mut [bool], counts: &[u32]) -> u8
     let exempt = has_bit(value, 0);
     let domains = selection(regs, value);
     let shape = *regs.shape();
-    let mut waiting = 0;
+    let mut draining = 0;
     for rrid in 0..flags.len() {
         let stalled = exempt != is_among(regs, &shape, domains, rrid as u8);
         flags[rrid] = stalled;
-        waiting += waiting_at(stalled, counts[rrid]);
+        draining += draining_at(stalled, counts[rrid]);
     }
-    waiting
+    draining
 }
 
 /// Sets or clears one flag by a write of RRIDSCP, whose bits 31:30 are the operation.
@@ -126,15 +126,15 @@ fn is_busy_at(flags: &[bool], counts: &[u32], rrid: usize) -> bool
 }
 
 /// The number where one requester may have changed.
-fn changed(waiting: u8, was: bool, now: bool) -> u8
-    requires few { waiting ≤ 64 }
-    requires some { one was ≤ waiting + one now }
-    ensures { result + one was ≡ waiting + one now }
+fn changed(draining: u8, was: bool, now: bool) -> u8
+    requires few { draining ≤ 64 }
+    requires some { one was ≤ draining + one now }
+    ensures { result + one was ≡ draining + one now }
 {
     match (was, now) {
-        (false, true) => waiting + 1,
-        (true, false) => waiting - 1,
-        _ => waiting,
+        (false, true) => draining + 1,
+        (true, false) => draining - 1,
+        _ => draining,
     }
 }
 
@@ -148,7 +148,7 @@ impl StallState {
             rrids,
             flags: [false; 64],
             counts: [0; 64],
-            waiting: 0,
+            draining: 0,
         }
     }
 
@@ -163,7 +163,7 @@ impl StallState {
     {
         let rrids = self.rrids as usize;
         let counts = self.counts;
-        self.waiting = set_flags(regs, value, &mut self.flags[..rrids], &counts[..rrids]);
+        self.draining = set_flags(regs, value, &mut self.flags[..rrids], &counts[..rrids]);
     }
 
     /// The flags after a write of `value` to RRIDSCP, in a unit that knows as many requesters. Bits
@@ -187,7 +187,7 @@ impl StallState {
             &self.counts[..rrids],
             (value % 65536) as usize,
         );
-        self.waiting = changed(self.waiting, was, now);
+        self.draining = changed(self.draining, was, now);
     }
 
     /// Whether the requester is stalled. One that isn't known never is.
@@ -208,7 +208,7 @@ impl StallState {
         let was = is_busy_at(&self.flags[..rrids], &self.counts[..rrids], rrid as usize);
         more_at(&mut self.counts[..rrids], rrid);
         let now = is_busy_at(&self.flags[..rrids], &self.counts[..rrids], rrid as usize);
-        self.waiting = changed(self.waiting, was, now);
+        self.draining = changed(self.draining, was, now);
     }
 
     /// One fewer is, of which some were. Of a requester that isn't known nothing is counted. All else
@@ -222,13 +222,13 @@ impl StallState {
         let was = is_busy_at(&self.flags[..rrids], &self.counts[..rrids], rrid as usize);
         less_at(&mut self.counts[..rrids], rrid);
         let now = is_busy_at(&self.flags[..rrids], &self.counts[..rrids], rrid as usize);
-        self.waiting = changed(self.waiting, was, now);
+        self.draining = changed(self.draining, was, now);
     }
 
     /// Whether some stalled requester has a transaction in flight.
     pub fn busy(&self) -> bool
         ensures { result ≡ is_busy_with self.now.flags self.now.counts }
     {
-        self.waiting != 0
+        self.draining != 0
     }
 }

@@ -3,8 +3,8 @@ use Rattle.std.proofs.Common.{◌≡◌, ℕ, ◌++◌, List, [], ◌∷◌, Non
 use Rattle.std.proofs.Math.Seq.{take-append_seam}
 use Rattle.event_words.specs.declared.event.Event.{Event}
 use Rattle.event_words.specs.declared.reply.Reply.TheVariants as replies
-use Rattle.event_words.specs.Word.{event_at}
-use Rattle.unit_core.specs.declared.parts.UnitParts.{UnitParts}
+use Rattle.event_words.specs.Word.{event_of_word}
+use Rattle.unit_core.specs.declared.parts.IopmpUnit.{IopmpUnit}
 use Rattle.unit_core.specs.declared.places.Kept.{Kept}
 use Rattle.unit_core.specs.Units.{UnitState, FabricState, event_step, aims_after, decoded_step, word_step}
 use Rattle.unit_core.specs.Places.{nothing_kept, states_of}
@@ -18,7 +18,7 @@ refilled n xs ys e = subst (λ k. take k (xs ++ ys) ≡ xs) e (take-append_seam 
 abbrev pub both : List UnitState → List ℕ → FabricState
 both us aims = record { units = us; aims = aims }
 
-pub whole_pushed : (units : List UnitParts) (kept : List Kept) (room : ℕ) → IsWhole units kept room → IsWhole units (kept ++ nothing_kept ∷ []) room
+pub whole_pushed : (units : List IopmpUnit) (kept : List Kept) (room : ℕ) → IsWhole units kept room → IsWhole units (kept ++ nothing_kept ∷ []) room
 whole_pushed units kept room h = record {
   few = h.few;
   places = h.places;
@@ -27,20 +27,20 @@ whole_pushed units kept room h = record {
 }
 
 -- the state that a fabric is seen in
-pub viewed : (units : List UnitParts) (aims : List ℕ) (kept : List Kept) (room : ℕ) (v : FabricView) → fabric_view units aims kept room ≡ v → v.state ≡ both (states_of 0 units kept) aims
+pub viewed : (units : List IopmpUnit) (aims : List ℕ) (kept : List Kept) (room : ℕ) (v : FabricView) → fabric_view units aims kept room ≡ v → v.state ≡ both (states_of 0 units kept) aims
 viewed units aims kept room v e = ap (λ (f : FabricView). f.state) (sym e)
 
 -- units and what is kept, as slices show them
-pub seen : (units units' : List UnitParts) (kept kept' : List Kept) → units' ≡ units → kept' ≡ kept ++ nothing_kept ∷ [] → states_of 0 units' kept' ≡ states_of 0 units kept
+pub seen : (units units' : List IopmpUnit) (kept kept' : List Kept) → units' ≡ units → kept' ≡ kept ++ nothing_kept ∷ [] → states_of 0 units' kept' ≡ states_of 0 units kept
 seen units units' kept kept' e f = rw (e, f) (states_pushed 0 units kept)
 
-pub nothing_done : (p word : ℕ) (s : FabricState) → event_at word ≡ None → word_step p s word ≡ (s, replies.NoSuch)
+pub nothing_done : (p word : ℕ) (s : FabricState) → event_of_word word ≡ None → word_step p s word ≡ (s, replies.NoSuch)
 nothing_done p word s e = ap (decoded_step p s) e
 
-pub state_done : (p word : ℕ) (e : Event) (s : FabricState) (us vs us' : List UnitState) (aims aims' : List ℕ) → event_at word ≡ Some e → s ≡ both us aims → vs ≡ us
+pub state_done : (p word : ℕ) (e : Event) (s : FabricState) (us vs us' : List UnitState) (aims aims' : List ℕ) → event_of_word word ≡ Some e → s ≡ both us aims → vs ≡ us
     → us' ≡ (event_step p aims vs e).0 → aims' ≡ aims_after aims e → both us' aims' ≡ (word_step p s word).0
 state_done p word e s us vs us' aims aims' w t q f g =
     rw (t, w) (ap (λ x. both x aims') (f ∙ ap (λ x. (event_step p aims x e).0) q) ∙ ap (both (event_step p aims us e).0) g)
 
-pub reply_done : (p word : ℕ) (e : Event) (s : FabricState) (us vs : List UnitState) (aims : List ℕ) → event_at word ≡ Some e → s ≡ both us aims → vs ≡ us → (event_step p aims vs e).1 ≡ (word_step p s word).1
+pub reply_done : (p word : ℕ) (e : Event) (s : FabricState) (us vs : List UnitState) (aims : List ℕ) → event_of_word word ≡ Some e → s ≡ both us aims → vs ≡ us → (event_step p aims vs e).1 ≡ (word_step p s word).1
 reply_done p word e s us vs aims w t q = rw (t, w) (ap (λ x. (event_step p aims x e).1) q)

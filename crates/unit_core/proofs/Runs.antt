@@ -259,5 +259,5 @@ event_submitted (Some (Wide v d rrid kind len)) u c a e = absurd (let n : None �
 pub submit_of : (h : History) (k u c : ℕ) (a : Access) → IsSubmission h k u c a → taken_at h k ≡ Some (Submit u c a)
 submit_of h k u c a e = event_submitted (taken_at h k) u c a e
 
-pub is_submission : (h : History) (k u c : ℕ) (a : Access) → taken_at h k ≡ Some (Submit u c a) → IsSubmission h k u c a
-is_submission h k u c a e = ap (option_and_then submitted) e
+pub submission_taken : (h : History) (k u c : ℕ) (a : Access) → taken_at h k ≡ Some (Submit u c a) → IsSubmission h k u c a
+submission_taken h k u c a e = ap (option_and_then submitted) e

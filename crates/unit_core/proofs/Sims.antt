@@ -9,11 +9,11 @@ use Rattle.event_words.specs.Registers.{Registers, write_at, register_at, has_bi
 use Rattle.event_words.specs.Guards.{guarded_bits, reg}
 use Rattle.event_words.specs.Denials.{recorded}
 use Rattle.event_words.specs.Stalls.{flag_of, flags_after, flags_after_rridscp, differs, is_selected}
-use Rattle.stall_queue.specs.declared.Waiting.{Waiting}
+use Rattle.stall_queue.specs.declared.QueuedSubmission.{QueuedSubmission}
 use Rattle.stall_queue.specs.Queues.{is_of}
 use Rattle.std.proofs.lemmas.List.FromFn.{length-map-range_with_len}
 use Rattle.unit_core.specs.declared.Submission.{Submission}
-use Rattle.unit_core.specs.declared.parts.UnitParts.{UnitParts}
+use Rattle.unit_core.specs.declared.parts.IopmpUnit.{IopmpUnit}
 use Rattle.unit_core.specs.declared.places.Kept.{Kept}
 use Rattle.unit_core.specs.Submissions.{released_item}
 use Rattle.unit_core.specs.Places.{IsHeldBack}
@@ -27,7 +27,7 @@ use Rattle.unit_core.proofs.HeldBack.{all_released}
 
 -- ---- a read
 
-pub sim_read : (x : UnitParts) (items : List Submission) (index : ℕ) → Agrees x items → part_read x index ≡ read_value (state_with x items) index
+pub sim_read : (x : IopmpUnit) (items : List Submission) (index : ℕ) → Agrees x items → part_read x index ≡ read_value (state_with x items) index
 sim_read x items index t =
     let b = busy_same x.stall.flags x.stall.counts items (λ s h. t.counts s (omega (arith, t.flags))) in
     rw b refl
@@ -53,7 +53,7 @@ flags_after_len r flags index value h = by_test (eqb index 12) _
 
 -- ---- a write
 
-known_pairs : (flags : List Bool) (xs : List Submission) → AllByRecursion (IsHeldBack flags) xs → AllByRecursion (λ (w : Waiting). w.rrid < length flags) (waiting_of xs)
+known_pairs : (flags : List Bool) (xs : List Submission) → AllByRecursion (IsHeldBack flags) xs → AllByRecursion (λ (w : QueuedSubmission). w.rrid < length flags) (waiting_of xs)
 known_pairs flags [] h = tt
 known_pairs flags (x ∷ xs) h = by_test x.queued _
     (λ t. rw t (flag_known flags x.access.rrid (h.0 t), known_pairs flags xs h.1))
@@ -65,7 +65,7 @@ held_pairs flags (x ∷ xs) h = by_test x.queued _
     (λ t. rw t (h.0 t, held_pairs flags xs h.1))
     (λ f. rw f (held_pairs flags xs h.1))
 
-stays_known : (flags : List Bool) (k : ℕ) (xs : List Waiting) → AllByRecursion (λ (w : Waiting). w.rrid < k) xs → filter (stays_until flags k) xs ≡ filter (λ (w : Waiting). flag_of flags w.rrid) xs
+stays_known : (flags : List Bool) (k : ℕ) (xs : List QueuedSubmission) → AllByRecursion (λ (w : QueuedSubmission). w.rrid < k) xs → filter (stays_until flags k) xs ≡ filter (λ (w : QueuedSubmission). flag_of flags w.rrid) xs
 stays_known flags k [] h = refl
 stays_known flags k (w ∷ xs) h =
     let rest = stays_known flags k xs h.1 in
@@ -73,27 +73,27 @@ stays_known flags k (w ∷ xs) h =
     let b : ltb w.rrid k ≡ true = grind (arith, nat_tests) in
     by_test (flag_of flags w.rrid) _ (λ t. rw t (ap (λ ys. w ∷ ys) rest)) (λ f. rw (f, b) rest)
 
-moved_stalled : (flags : List Bool) (k s : ℕ) (xs : List Waiting) → flag_of flags s ≡ true → moved_for flags k xs s ≡ 0
+moved_stalled : (flags : List Bool) (k s : ℕ) (xs : List QueuedSubmission) → flag_of flags s ≡ true → moved_for flags k xs s ≡ 0
 moved_stalled flags k s xs t = rw (t, and_false (ltb s k)) refl
   where
     and_false : (b : Bool) → (b && false) ≡ false
     and_false true = refl
     and_false false = refl
 
-moved_known : (flags : List Bool) (k s : ℕ) (xs : List Waiting) → flag_of flags s ≡ false → s < k → moved_for flags k xs s ≡ count_by (is_of s) xs
+moved_known : (flags : List Bool) (k s : ℕ) (xs : List QueuedSubmission) → flag_of flags s ≡ false → s < k → moved_for flags k xs s ≡ count_by (is_of s) xs
 moved_known flags k s xs t l = let b : ltb s k ≡ true = grind (arith, nat_tests) in rw (b, t) refl
 
-abbrev pub new_items : UnitParts → List Submission → List Submission
+abbrev pub new_items : IopmpUnit → List Submission → List Submission
 new_items y items = map (released_item y.stall.flags) items
 
-pub written_queue : (x y : UnitParts) (items : List Submission) (index value : ℕ) → Agrees x items → IsWritten x y index value → y.queue.items ≡ filter (λ (w : Waiting). flag_of y.stall.flags w.rrid) x.queue.items
+pub written_queue : (x y : IopmpUnit) (items : List Submission) (index value : ℕ) → Agrees x items → IsWritten x y index value → y.queue.items ≡ filter (λ (w : QueuedSubmission). flag_of y.stall.flags w.rrid) x.queue.items
 written_queue x y items index value t w =
     let fl = flags_after x.regs x.stall.flags index value in
-    let known : AllByRecursion (λ (v : Waiting). v.rrid < x.regs.shape.rrids) x.queue.items =
-    subst (AllByRecursion (λ (v : Waiting). v.rrid < x.regs.shape.rrids)) (sym t.queue) (subst (λ k. AllByRecursion (λ (v : Waiting). v.rrid < k) (waiting_of items)) t.flags (known_pairs x.stall.flags items t.held)) in
-    w.released.items ∙ (stays_known fl x.regs.shape.rrids x.queue.items known ∙ ap (λ fs. filter (λ (v : Waiting). flag_of fs v.rrid) x.queue.items) (sym w.released.flags))
+    let known : AllByRecursion (λ (v : QueuedSubmission). v.rrid < x.regs.shape.rrids) x.queue.items =
+    subst (AllByRecursion (λ (v : QueuedSubmission). v.rrid < x.regs.shape.rrids)) (sym t.queue) (subst (λ k. AllByRecursion (λ (v : QueuedSubmission). v.rrid < k) (waiting_of items)) t.flags (known_pairs x.stall.flags items t.held)) in
+    w.released.items ∙ (stays_known fl x.regs.shape.rrids x.queue.items known ∙ ap (λ fs. filter (λ (v : QueuedSubmission). flag_of fs v.rrid) x.queue.items) (sym w.released.flags))
 
-pub written_tied : (x y : UnitParts) (items : List Submission) (index value : ℕ) → Agrees x items → IsWritten x y index value → Agrees y (new_items y items)
+pub written_tied : (x y : IopmpUnit) (items : List Submission) (index value : ℕ) → Agrees x items → IsWritten x y index value → Agrees y (new_items y items)
 written_tied x y items index value t w =
     let shape : y.regs.shape ≡ x.regs.shape = ap (λ (r : Registers). r.shape) w.regs ∙ written_shape x.regs index value (guarded_bits x.regs index) (register_at x.regs.shape index) in
     let rrids : y.regs.shape.rrids ≡ x.regs.shape.rrids = ap (λ (h : Rattle.event_words.specs.declared.shape.Shape.Shape). h.rrids) shape in
@@ -113,14 +113,14 @@ written_tied x y items index value t w =
           let n = flying_stalled y.stall.flags s items f in omega (arith, c, old, m, n))
           (λ f. let m = moved_known (flags_after x.regs x.stall.flags index value) x.regs.shape.rrids s x.queue.items (sym fl ∙ f) l in
           let n = flying_moved y.stall.flags s items f in omega (arith, c, old, m, n, q));
-      queue = written_queue x y items index value t w ∙ (ap (filter (λ (v : Waiting). flag_of y.stall.flags v.rrid)) t.queue ∙ sym (waiting_released y.stall.flags items));
+      queue = written_queue x y items index value t w ∙ (ap (filter (λ (v : QueuedSubmission). flag_of y.stall.flags v.rrid)) t.queue ∙ sym (waiting_released y.stall.flags items));
       held = all_released y.stall.flags items;
     }
 
-pub written_state : (x y : UnitParts) (items : List Submission) (index value : ℕ) → IsWritten x y index value → state_with y (new_items y items) ≡ after_write (state_with x items) index value
+pub written_state : (x y : IopmpUnit) (items : List Submission) (index value : ℕ) → IsWritten x y index value → state_with y (new_items y items) ≡ after_write (state_with x items) index value
 written_state x y items index value w = rw (w.regs, w.released.flags) refl
 
-pub sim_write : (u : ℕ) (x y : UnitParts) (ws : List Kept) (index value : ℕ) → Agrees x (items_of u x.queue.items ws) → IsWritten x y index value
+pub sim_write : (u : ℕ) (x y : IopmpUnit) (ws : List Kept) (index value : ℕ) → Agrees x (items_of u x.queue.items ws) → IsWritten x y index value
     → Agrees y (items_of u y.queue.items ws) × (state_of u y ws ≡ after_write (state_of u x ws) index value)
 sim_write u x y ws index value t w =
     let e : items_of u y.queue.items ws ≡ new_items y (items_of u x.queue.items ws) = ap (λ q. items_of u q ws) (written_queue x y _ index value t w) ∙ items_released u x.queue.items ws y.stall.flags t.queue in (

@@ -15,22 +15,22 @@ use Rattle.event_words.specs.Registers.{written, word_at, has_bit}
 use Rattle.event_words.specs.Guards.{guarded_bits, reg}
 use Rattle.event_words.specs.Denials.{denial, recorded}
 use Rattle.event_words.specs.Stalls.{flag_of, flags_after}
-use Rattle.stall_queue.specs.declared.Waiting.{Waiting}
+use Rattle.stall_queue.specs.declared.QueuedSubmission.{QueuedSubmission}
 use Rattle.stall_queue.specs.Queues.{Queue, is_of}
 use Rattle.stall_control.specs.Counts.{Stalls, count_in, more_at, less_at, is_busy_with}
-use Rattle.unit_core.specs.declared.parts.UnitParts.{UnitParts}
+use Rattle.unit_core.specs.declared.parts.IopmpUnit.{IopmpUnit}
 use Rattle.unit_core.specs.Units.{stall_code}
 
 -- What one unit's registers, stall state and queue do, without the words of the open submissions.
 
-abbrev pub part_read : UnitParts → ℕ → ℕ
+abbrev pub part_read : IopmpUnit → ℕ → ℕ
 part_read x index =
     if index == 12 then word_at x.regs index + count_of_bool (is_busy_with x.stall.flags x.stall.counts)
     else (if index == 14 then word_at x.regs index + stall_code x.regs x.stall.flags (word_at x.regs index) * 2 ^ 30
     else word_at x.regs index)
 
 -- the requester of a queued submission is stalled
-abbrev pub IsHeld : List Bool → Waiting → Type 0
+abbrev pub IsHeld : List Bool → QueuedSubmission → Type 0
 IsHeld flags w = flag_of flags w.rrid ≡ true
 
 -- a write to this index may change flags
@@ -38,13 +38,13 @@ abbrev pub changes_flags : ℕ → Bool
 changes_flags index = (index == 12) || (index == 14)
 
 -- what a release of the requesters below k leaves in the queue
-abbrev pub stays_until : List Bool → ℕ → Waiting → Bool
+abbrev pub stays_until : List Bool → ℕ → QueuedSubmission → Bool
 stays_until flags k w = flag_of flags w.rrid || not (nat_lt w.rrid k)
 
 abbrev pub is_released : List Bool → ℕ → ℕ → Bool
 is_released flags k s = nat_lt s k && not (flag_of flags s)
 
-abbrev pub moved_for : List Bool → ℕ → List Waiting → ℕ → ℕ
+abbrev pub moved_for : List Bool → ℕ → List QueuedSubmission → ℕ → ℕ
 moved_for flags k queue s = if is_released flags k s then count_by (is_of s) queue else 0
 
 -- The stall state and the queue after a release of the requesters below k.
@@ -56,20 +56,20 @@ pub record IsReleased (k : ℕ) (s : Stalls) (q : Queue) (s' : Stalls) (q' : Que
   pub size : q'.size ≡ q.size
 
 -- A unit after a register write.
-pub record IsWritten (x y : UnitParts) (index value : ℕ) : Type 0 where
+pub record IsWritten (x y : IopmpUnit) (index value : ℕ) : Type 0 where
   pub regs : y.regs ≡ written x.regs index value (guarded_bits x.regs index)
   pub released : IsReleased x.regs.shape.rrids (record { flags = flags_after x.regs x.stall.flags index value; counts = x.stall.counts }) x.queue y.stall y.queue
 
-abbrev pub with_counts : UnitParts → List ℕ → UnitParts
+abbrev pub with_counts : IopmpUnit → List ℕ → IopmpUnit
 with_counts x counts = record x { stall = record { flags = x.stall.flags; counts = counts } }
 
-abbrev pub with_waiting : UnitParts → ℕ → ℕ → UnitParts
+abbrev pub with_waiting : IopmpUnit → ℕ → ℕ → IopmpUnit
 with_waiting x place rrid = record x { queue = record { items = x.queue.items ++ record { place = place; rrid = rrid } ∷ []; size = x.queue.size } }
 
-abbrev pub part_stall_denial : UnitParts → Denial
+abbrev pub part_stall_denial : IopmpUnit → Denial
 part_stall_denial x = denial x.regs 7 0xFFFF false false
 
-abbrev pub part_submit : ℕ → UnitParts → Access → UnitParts × Reply
+abbrev pub part_submit : ℕ → IopmpUnit → Access → IopmpUnit × Reply
 part_submit p x a =
     if not (flag_of x.stall.flags a.rrid) then (with_counts x (more_at x.stall.counts a.rrid), replies.Passed)
     else (if nat_lt (length x.queue.items) x.queue.size then (with_waiting x p a.rrid, replies.Queued)
@@ -77,7 +77,7 @@ part_submit p x a =
     then (record x { regs = recorded x.regs a (part_stall_denial x) }, replies.Stalled (part_stall_denial x))
     else (x, replies.Busy)))
 
-abbrev pub part_verdict : UnitParts → Access → Decision → UnitParts × Verdict
+abbrev pub part_verdict : IopmpUnit → Access → Decision → IopmpUnit × Verdict
 part_verdict x a decisions.Allowed =
     (with_counts x (less_at x.stall.counts a.rrid), verdicts.Allowed (unwrap_or x.regs.shape.transl a.rrid))
 part_verdict x a (decisions.Denied kind entry mute_irq mute_err) =

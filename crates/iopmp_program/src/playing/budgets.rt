@@ -1,7 +1,7 @@
 // How many events each caller may make.
 ghost use Rattle.std.specs.Prelude.{◌+◌, ◌*◌, ◌≤◌, length};
 ghost use Rattle.std.specs.List.{AllByRecursion};
-ghost use Rattle.event_words.specs.Sections.{events_of};
+ghost use Rattle.event_words.specs.Sections.{most_section_events};
 ghost use Rattle.script_reader.specs.Scripts.{IsWellFormedScript, need_of};
 ghost use Rattle.iopmp_program.specs.PlayedSections.{HasAtMost};
 

@@ -6,7 +6,7 @@ use Rattle.unit_core.specs.Fabrics.{state_after_word, reply_to_word}
 use Rattle.unit_core.specs.Reports.{event_line}
 use Rattle.audit_reader.specs.Following.{Awaits}
 use Rattle.audit_reader.proofs.LinesOfReports.{event_is_line}
-use Rattle.audit_reader.proofs.Steps.{Finds, no_caller, none_awaited, other_awaited, good_step, awaited_valid}
+use Rattle.audit_reader.proofs.AuditSteps.{Finds, no_caller, none_awaited, other_awaited, good_step, awaited_valid}
 use Rattle.audit_reader.proofs.WholeLines.{line_taken, line_begins}
 use Rattle.audit_reader.proofs.auditing.event_is_right.Goals as goal
 

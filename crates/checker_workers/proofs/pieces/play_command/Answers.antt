@@ -2,7 +2,7 @@ use Rattle.std.proofs.Common.{Bool, false, not, sym, subst}
 use Rattle.event_words.specs.declared.event.Event.TheVariants as events
 use Rattle.event_words.specs.declared.reply.Reply.TheVariants as replies
 use Rattle.event_words.specs.declared.section.Command.{Command}
-use Rattle.checker_workers.specs.declared.pieces.Watch.{Watch}
+use Rattle.checker_workers.specs.declared.pieces.RegisterPoll.{RegisterPoll}
 use Rattle.checker_workers.specs.Pieces.{Polls, PlaysCommand}
 use Rattle.checker_workers.proofs.Commands.{plays_write, plays_read, plays_submit_as, plays_until, plays_through}
 use Rattle.checker_workers.proofs.pieces.play_command.Goals as goal
@@ -25,7 +25,7 @@ returns-in-Submit-clause-plays g c =
 pub returns-in-Until-clause-plays : goal.returns-in-Until-clause-plays
 returns-in-Until-clause-plays g c =
     let polled : Polls c.args.port.now (events.RegRead c.in-Until.unit c.args.port.now.number c.in-Until.index) c.in-Until.mask c.in-Until.value c.in-Until.max c.poll.result c.poll.new.port =
-    subst (λ (w : Watch). Polls c.args.port.now (events.RegRead w.unit c.args.port.now.number w.index) w.mask w.value c.in-Until.max c.poll.result c.poll.new.port) c.new-watch.ensures c.poll.ensures in
+    subst (λ (w : RegisterPoll). Polls c.args.port.now (events.RegRead w.unit c.args.port.now.number w.index) w.mask w.value c.in-Until.max c.poll.result c.poll.new.port) c.new-watch.ensures c.poll.ensures in
     subst (λ (k : Command). PlaysCommand c.args.port.now c.args.table.now.items k c.poll.new.port c.args.table.now.items (not c.poll.result)) (sym c.in-Until.is)
     (plays_until c.args.port.now c.poll.new.port c.args.table.now.items c.in-Until.unit c.in-Until.index c.in-Until.mask c.in-Until.value c.in-Until.max c.poll.result polled c.requires.tickets)
 

@@ -1,5 +1,5 @@
 use Rattle.std.proofs.Common.{arith}
-use Rattle.policy_compiler.proofs.Steps.{enables_more}
+use Rattle.policy_compiler.proofs.WriteSteps.{enables_more}
 use Rattle.policy_compiler.proofs.writes.push_enables.Goals as goal
 
 pub loop-rrid-preserved : goal.loop-rrid-preserved

@@ -1,5 +1,5 @@
 use Rattle.std.proofs.Common.{arith}
-use Rattle.policy_compiler.proofs.Steps.{four_room}
+use Rattle.policy_compiler.proofs.WriteSteps.{four_room}
 use Rattle.policy_compiler.proofs.writes.with_permission.Goals as goal
 
 pub overflow_mul-result : goal.overflow_mul-result

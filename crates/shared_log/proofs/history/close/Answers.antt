@@ -9,7 +9,7 @@ use Rattle.std.specs.List.{AllByRecursion}
 use Rattle.shared_log.specs.Words.{BeginsWithLog}
 use Rattle.shared_log.specs.SeatViews.{with_joined_log, with_joined}
 use Rattle.shared_log.specs.Callers.{KeepsBudget}
-use Rattle.shared_log.proofs.Steps.{join_allowed}
+use Rattle.shared_log.proofs.LogSteps.{join_allowed}
 use Rattle.shared_log.proofs.Callers.{caller_of_fields}
 use Rattle.shared_log.proofs.Closing.{at-item, mapped-length, finishes, item-behind, nothing_left, all-at, all-snoc, holds_caller}
 use Rattle.shared_log.proofs.history.close.Goals as goal

@@ -2,7 +2,7 @@ use Rattle.std.proofs.Common.{◌≡◌, ℕ, ◌+◌, ◌*◌, ◌<◌, length,
 use Rattle.event_words.specs.Runs.{run}
 use Rattle.event_words.proofs.Runs.{run-take}
 use Rattle.std.proofs.Math.Seq.{take-length}
-use Rattle.shared_log.proofs.Steps.{load_allowed}
+use Rattle.shared_log.proofs.LogSteps.{load_allowed}
 use Rattle.shared_log.proofs.shared.bring_up.Goals as goal
 
 pub load-word-requires : goal.load-word-requires

@@ -4,7 +4,7 @@ use Rattle.shared_log.specs.Words.{words_by}
 use Rattle.shared_log.specs.SeatViews.{new_caller}
 use Rattle.shared_log.proofs.Callers.{new_caller_fields, caller_of_fields}
 use Rattle.shared_log.proofs.Counting.{only_first}
-use Rattle.shared_log.proofs.Steps.{split_allowed}
+use Rattle.shared_log.proofs.LogSteps.{split_allowed}
 use Rattle.shared_log.proofs.shared.split.Goals as goal
 
 pub bring_up-machine-requires : goal.bring_up-machine-requires

@@ -2,15 +2,15 @@ use Rattle.std.proofs.Common.{◌≡◌, ℕ, ◌-◌, ◌<◌, eqb, [], ◌∷�
 use prog.Atomic.{either}
 use Rattle.atomic_table.specs.Table.{Allows}
 use Rattle.event_words.specs.Word.{word_of}
-use Rattle.event_words.specs.Runs.{bearer, IsEventWord}
-use Rattle.event_words.proofs.Runs.{bearer-word_of, word_of-is_word}
+use Rattle.event_words.specs.Runs.{caller_of_word, IsEventWord}
+use Rattle.event_words.proofs.Runs.{caller_of_word-word_of, word_of-is_word}
 use Rattle.shared_log.specs.Words.{words_by}
 use Rattle.shared_log.specs.SeatViews.{with_word}
 use Rattle.shared_log.specs.Rule.{IsSharedLog}
 use Rattle.shared_log.specs.Callers.{AfterOthers}
-use Rattle.shared_log.specs.Steps.{AfterExchange}
+use Rattle.shared_log.specs.Exchanges.{AfterExchange}
 use Rattle.shared_log.proofs.WordLists.{words-snoc-other, words-snoc-own}
-use Rattle.shared_log.proofs.Steps.{exchange_allowed}
+use Rattle.shared_log.proofs.LogSteps.{exchange_allowed}
 use Rattle.shared_log.proofs.Callers.{no_others, own_words_below_budget, one_word_more, word_of_others_more, after_call, caller_of_fields}
 use Rattle.shared_log.proofs.caller.Caller.call.Goals as goal
 
@@ -31,7 +31,7 @@ compare_exchange-found-requires g c =
     let k = c.shared.inside.table.shared in
     let same : seat.table_id ≡ k.table_id = ap (λ d. d.table) h.same ∙ c.requires.belongs.0 ∙ sym (ap (λ l. l.table) c.shared.view_is) in
     let room : c.word.self-inside.place < seat.table_id.words = i.room c.word.invariant.some_left in
-    let mine : bearer c.pack-word.result ≡ seat.me.0.number = ap bearer c.pack-word.ensures.word ∙ bearer-word_of c.args.event c.requires.event.0 ∙ c.requires.event.1 ∙ sym (ap (λ d. d.number) h.same) in
+    let mine : caller_of_word c.pack-word.result ≡ seat.me.0.number = ap caller_of_word c.pack-word.ensures.word ∙ caller_of_word-word_of c.args.event c.requires.event.0 ∙ c.requires.event.1 ∙ sym (ap (λ d. d.number) h.same) in
     let event : IsEventWord c.pack-word.result = subst IsEventWord (sym c.pack-word.ensures.word) (word_of-is_word c.args.event c.requires.event.0) in (
       same,
       subst (λ (n : ℕ). c.word.self-inside.place < n) (ap (λ t. t.words) same) room,
@@ -63,7 +63,7 @@ won_fields g c =
     let i = c.word.invariant.is in
     let ex = c.compare_exchange-found.ensures in
     let won = ex.2.1.won c.if-found-eq0.true in
-    let mine : bearer c.pack-word.result ≡ c.word.self-inside.number = ap bearer c.pack-word.ensures.word ∙ bearer-word_of c.args.event c.requires.event.0 ∙ c.requires.event.1 ∙ sym (ap (λ d. d.number) c.word.invariant.so_far.same) ∙ i.number_is in
+    let mine : caller_of_word c.pack-word.result ≡ c.word.self-inside.number = ap caller_of_word c.pack-word.ensures.word ∙ caller_of_word-word_of c.args.event c.requires.event.0 ∙ c.requires.event.1 ∙ sym (ap (λ d. d.number) c.word.invariant.so_far.same) ∙ i.number_is in
     let own : words_by c.word.self-inside.number (c.word.self-inside.seat.me.0.log ++ c.pack-word.result ∷ []) ≡ words_by c.word.self-inside.number c.word.self-inside.seat.me.0.log ++ c.pack-word.result ∷ []
     = words-snoc-own c.word.self-inside.number c.word.self-inside.seat.me.0.log c.pack-word.result mine in
     let left = i.left_is in

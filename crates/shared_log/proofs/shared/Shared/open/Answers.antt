@@ -1,7 +1,7 @@
 use Rattle.std.proofs.Common.{ℕ, List, [], ◌∷◌, sym, ◌∙◌, subst}
 use Rattle.shared_log.specs.SeatViews.{opening_view}
 use Rattle.shared_log.specs.Rule.{IsSharedLog}
-use Rattle.shared_log.proofs.Steps.{opening_kept}
+use Rattle.shared_log.proofs.LogSteps.{opening_kept}
 use Rattle.shared_log.proofs.shared.Shared.open.Goals as goal
 
 pub of_words-requires : goal.of_words-requires

@@ -1,6 +1,6 @@
 use Rattle.std.proofs.Common.{arith}
 use Rattle.register_fields.proofs.Shapes.{IsTable_hwcfg0}
-use Rattle.register_fields.proofs.fields.total_hwcfg0.Goals as goal
+use Rattle.register_fields.proofs.fields.sum_of_hwcfg0.Goals as goal
 
 pub sum_of-requires : goal.sum_of-requires
 sum_of-requires c =

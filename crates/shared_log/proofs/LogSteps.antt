@@ -7,12 +7,12 @@ use prog.Atomic.{either}
 use Rattle.atomic_table.specs.Table.{State, Me, Act, Valid, carried_after, keeps, stepped, Allows, Splits, Joins}
 use Rattle.atomic_table.proofs.Lists.{set_here, set_again}
 use Rattle.shared_log.specs.declared.seat_view.SeatView.{SeatView}
-use Rattle.event_words.specs.Runs.{bearer, IsEventWord}
+use Rattle.event_words.specs.Runs.{caller_of_word, IsEventWord}
 use Rattle.event_words.proofs.Runs.{word-nonzero}
 use Rattle.shared_log.specs.Words.{words_by, AllEventWords}
 use Rattle.shared_log.specs.SeatViews.{with_word, with_caller, new_caller, with_joined_log, spent_view, opening_view}
 use Rattle.shared_log.specs.Rule.{IsCallerSeat, IsSharedLog}
-use Rattle.shared_log.specs.Steps.{AfterExchange}
+use Rattle.shared_log.specs.Exchanges.{AfterExchange}
 use Rattle.shared_log.proofs.WordLists.{at_end, at-below, get-behind, get-front, set-same, AllEventWords-right}
 use Rattle.shared_log.proofs.RuleKept.{view_kept, won, lost, not_own, split_kept, join_kept}
 
@@ -28,13 +28,13 @@ module _ (C B : ℕ) where
   zeros-first (suc n) = refl
 
   -- the word at the place of a view
-  next-word : (s : St) (r : Holds s) (id : ℕ) (v : SeatView) (q : IsCallerSeat C B r.log r.seat r.made r.joined id v) → get_or s.words (length v.log) 0 ≡ get_or (q.has.rest ++ replicate r.free 0) 0 0
-  next-word s r id v q = ap (λ (l : List ℕ). get_or l (length v.log) 0) (r.words_are ∙ ap (λ (l : List ℕ). l ++ replicate r.free 0) q.has.begins ∙ append_assoc v.log q.has.rest (replicate r.free 0)) ∙ get-behind v.log (q.has.rest ++ replicate r.free 0)
+  next-word : (s : St) (r : Holds s) (id : ℕ) (v : SeatView) (q : IsCallerSeat C B r.log r.seat r.made r.joined id v) → get_or s.words (length v.log) 0 ≡ get_or (q.has.rest ++ replicate r.empty_words 0) 0 0
+  next-word s r id v q = ap (λ (l : List ℕ). get_or l (length v.log) 0) (r.words_are ∙ ap (λ (l : List ℕ). l ++ replicate r.empty_words 0) q.has.begins ∙ append_assoc v.log q.has.rest (replicate r.empty_words 0)) ∙ get-behind v.log (q.has.rest ++ replicate r.empty_words 0)
 
   there : (views : List SeatView) (id : ℕ) (v w : SeatView) → get_elem? views id ≡ some v → get_elem? (set views id w) id ≡ some w
   there views id v w at = set_here views id w (at-below views id v at)
 
-  module _ (slots id : ℕ) (me : Me (Unit {0}) SeatView) (word : ℕ) (live : me.0.live ≡ true) (mine : bearer word ≡ me.0.number) (event : IsEventWord word) (less : length (words_by me.0.number me.0.log) < me.0.budget) where
+  module _ (slots id : ℕ) (me : Me (Unit {0}) SeatView) (word : ℕ) (live : me.0.live ≡ true) (mine : caller_of_word word ≡ me.0.number) (event : IsEventWord word) (less : length (words_by me.0.number me.0.log) < me.0.budget) where
     abbrev Then : ℕ → Me (Unit {0}) SeatView → Type 0
     Then n me' = (me'.1 ≡ me.1) × AfterExchange word me.0 n me'.0
 
@@ -45,7 +45,7 @@ module _ (C B : ℕ) where
         → (w : SeatView) × (a : Act (Unit {0})) × Valid s.homes me.1 a × Holds (stepped s place (either (eqb (get_or s.words place 0) 0) word (get_or s.words place 0)) id me.1 w a) × Then (get_or s.words place 0) (w, carried_after me.1 a)
     exchange_by s r at q [] over =
         let F : ℕ = get_or s.words place 0 in
-        let found : F ≡ zero = next-word s r id me.0 q ∙ ap (λ (l : List ℕ). get_or (l ++ replicate r.free 0) 0 0) over ∙ zeros-first r.free in
+        let found : F ≡ zero = next-word s r id me.0 q ∙ ap (λ (l : List ℕ). get_or (l ++ replicate r.empty_words 0) 0 0) over ∙ zeros-first r.empty_words in
         let kept : IsSharedLog C B (set s.words place word) (set s.views id (with_word me.0 word)) = won C B s.words s.views r id me.0 at live q over word mine event (let e = q.budget_is in omega arith) in (
           with_word me.0 word,
           keeps,
@@ -62,7 +62,7 @@ module _ (C B : ℕ) where
         )
     exchange_by s r at q (x ∷ xs) more =
         let F : ℕ = get_or s.words place 0 in
-        let found : F ≡ x = next-word s r id me.0 q ∙ ap (λ (l : List ℕ). get_or (l ++ replicate r.free 0) 0 0) more in
+        let found : F ≡ x = next-word s r id me.0 q ∙ ap (λ (l : List ℕ). get_or (l ++ replicate r.empty_words 0) 0 0) more in
         let is_word : AllEventWords (x ∷ xs) = subst (AllEventWords) more (AllEventWords-right me.0.log q.has.rest (subst (AllEventWords) q.has.begins r.events)) in
         let full : F ≢ zero = λ e. word-nonzero x is_word.0 (sym found ∙ e) in
         let kept : IsSharedLog C B s.words (set s.views id (with_word me.0 x)) = lost C B s.words s.views r id me.0 q x xs more in (
@@ -76,7 +76,7 @@ module _ (C B : ℕ) where
             record {
               valid = view_kept C B s.words (set s.views id (with_word me.0 x)) kept id (with_word me.0 x) (there s.views id me.0 (with_word me.0 x) at) live;
               won = λ e. absurd (full e);
-              lost = λ _. (ap (with_word me.0) (sym found), subst (λ (k : ℕ). bearer k ≢ me.0.number) (sym found) (not_own C B s.words s.views r id me.0 q x xs more));
+              lost = λ _. (ap (with_word me.0) (sym found), subst (λ (k : ℕ). caller_of_word k ≢ me.0.number) (sym found) (not_own C B s.words s.views r id me.0 q x xs more));
             },
           ),
         )
@@ -91,7 +91,7 @@ module _ (C B : ℕ) where
         keeps,
         tt,
         subst (λ (l : List ℕ). IsSharedLog C B l (set s.views id me.0)) (sym (set-same s.words i)) (subst (IsSharedLog C B s.words) (sym (set_again s.views id me.0 at)) r),
-        (refl, ap (λ (l : List ℕ). get_or l i 0) (r.words_are ∙ ap (λ (l : List ℕ). l ++ replicate r.free 0) q.has.begins ∙ append_assoc me.0.log q.has.rest (replicate r.free 0)) ∙ get-front me.0.log (q.has.rest ++ replicate r.free 0) i below),
+        (refl, ap (λ (l : List ℕ). get_or l i 0) (r.words_are ∙ ap (λ (l : List ℕ). l ++ replicate r.empty_words 0) q.has.begins ∙ append_assoc me.0.log q.has.rest (replicate r.empty_words 0)) ∙ get-front me.0.log (q.has.rest ++ replicate r.empty_words 0) i below),
       )
 
   pub split_allowed : (id : ℕ) (v : SeatView) → v.live ≡ true → v.number ≡ 0 → v.made < C → Splits Holds id v (with_caller v) (new_caller v)
@@ -106,12 +106,12 @@ module _ (C B : ℕ) where
   pub opening_kept : 1 ≤ C → IsSharedLog C B (replicate (C * B) 0) (opening_view C B ∷ [])
   opening_kept one = record {
     log = [];
-    free = C * B;
+    empty_words = C * B;
     seat = λ c. cond (eqb c 0) (some 0) none;
     made = 1;
     joined = [];
     words_are = refl;
-    total = omega arith;
+    word_count = omega arith;
     events = tt;
     few = one;
     within = λ c. omega arith;

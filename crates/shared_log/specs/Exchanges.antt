@@ -1,7 +1,7 @@
 -- What the steps on the table's words tell.
 use Rattle.std.specs.Prelude.{◌≡◌, ◌≢◌, ℕ, slice_index}
 use Rattle.atomic_table.specs.Table.{Step, Me}
-use Rattle.event_words.specs.Runs.{bearer}
+use Rattle.event_words.specs.Runs.{caller_of_word}
 use Rattle.shared_log.specs.declared.seat_view.SeatView.{SeatView}
 use Rattle.shared_log.specs.SeatViews.{IsSeatView, with_word}
 
@@ -10,7 +10,7 @@ use Rattle.shared_log.specs.SeatViews.{IsSeatView, with_word}
 pub record AfterExchange (word : ℕ) (v : SeatView) (found : ℕ) (v' : SeatView) : Type 0 where
   pub valid : IsSeatView v'
   pub won : found ≡ 0 → v' ≡ with_word v word
-  pub lost : found ≢ 0 → (v' ≡ with_word v found) × (bearer found ≢ v.number)
+  pub lost : found ≢ 0 → (v' ≡ with_word v found) × (caller_of_word found ≢ v.number)
 
 abbrev SeatState : Type 0
 SeatState = Me (Unit {0}) SeatView

@@ -13,9 +13,9 @@ use Rattle.event_words.specs.Events.{caller_of, same_event, same_access}
 use Rattle.event_words.specs.Valid.{IsValidEvent}
 use Rattle.event_words.specs.Word.{word_of, kind_code}
 use Rattle.event_words.specs.declared.event.Event.TheVariants as events
-use Rattle.event_words.specs.Runs.{bearer, IsEventWord}
+use Rattle.event_words.specs.Runs.{caller_of_word, IsEventWord}
 use Rattle.event_words.specs.Records.{section_end}
-use Rattle.event_words.proofs.Runs.{bearer-word_of, word_of-is_word}
+use Rattle.event_words.proofs.Runs.{caller_of_word-word_of, word_of-is_word}
 use Rattle.section_cursor.specs.Cursors.{CursorOf, rest_end, HasAllTries, Allows}
 use Rattle.section_cursor.specs.ValidEvents.{HasValidEvents}
 use Rattle.unit_core.specs.Units.{FabricState}
@@ -106,7 +106,7 @@ events_same _ _ h = absurd (let n : false ≡ true = h in cc)
 -- ---- the order, one event more
 
 more_of_boot : (script : ScriptOf) (words : List ℕ) (cs : List CursorOf) (d : CursorOf) (w : ℕ) → AreInOrder script words → Follow (logged_in script.shapes words) 0 cs (script.boot ∷ script.lanes)
-    → bearer w ≡ 0 → (IsSome (rest_end (get_or cs 0 d) []) → ⊥) → AreInOrder script (words ++ w ∷ [])
+    → caller_of_word w ≡ 0 → (IsSome (rest_end (get_or cs 0 d) []) → ⊥) → AreInOrder script (words ++ w ∷ [])
 more_of_boot script words cs d w (inl boot) f h over = inl (all_more IsBoot words w boot h)
 more_of_boot script words cs d w (inr lanes) f h over = absurd (over (subst IsSome (sym (boot_over cs script words d f)) lanes.whole))
 
@@ -158,7 +158,7 @@ good_step script words state after cs caller place event reply left rest new d s
     let number : caller_of event ≡ caller = v.1 ∙ ap (λ (b : CursorOf). b.caller) cursor_is ∙ own.0 ∙ zero-add caller in
     let allows = subst (λ (b : CursorOf). Allows b x) cursor_is (a.some tries x (same_event_self event)) in
     let follow = noted cs (script.boot ∷ script.lanes) 0 caller d new (logged_in script.shapes words) x (number ∙ sym (zero-add caller)) a.at.0 n allows s.follow in
-    let borne : bearer (word_of event) ≡ caller = bearer-word_of event v.0 ∙ number in
+    let borne : caller_of_word (word_of event) ≡ caller = caller_of_word-word_of event v.0 ∙ number in
     let lanes : length cs ≡ suc (length script.lanes) = as_many cs (script.boot ∷ script.lanes) 0 (logged_in script.shapes words) s.follow in
     record {
       event = event;
@@ -173,7 +173,7 @@ good_step script words state after cs caller place event reply left rest new d s
       };
     }
   where
-    in_order : (m : ℕ) → caller ≡ m → bearer (word_of event) ≡ caller → length cs ≡ suc (length script.lanes) → AreInOrder script (words ++ word_of event ∷ [])
+    in_order : (m : ℕ) → caller ≡ m → caller_of_word (word_of event) ≡ caller → length cs ≡ suc (length script.lanes) → AreInOrder script (words ++ word_of event ∷ [])
     in_order zero z b e =
         let c = a.cursor in
         let is : c ≡ get_or cs 0 d = a.at.1 ∙ get_or_same cs caller c d a.at.0 ∙ ap (λ m. get_or cs m d) z in
@@ -198,7 +198,7 @@ may_be script words state cs e more s v legal =
     let logged = logged_in script.shapes words in
     let x = entry_after script.shapes words e in
     let o = legal.order in
-    let borne : bearer (word_of e) ≡ caller_of e = bearer-word_of e v in
+    let borne : caller_of_word (word_of e) ≡ caller_of e = caller_of_word-word_of e v in
     let few = is_of_some (length script.lanes) o.boot o.others words (word_of e) more o.is o.of_boot o.of_lanes in
     let many : length cs ≡ suc (length script.lanes) = as_many cs sections 0 logged s.follow in
     let there : caller_of e < length cs = omega (arith, borne, few, many) in

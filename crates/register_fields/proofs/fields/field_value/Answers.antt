@@ -1,6 +1,6 @@
 use Rattle.std.proofs.Common.{arith}
 use Rattle.register_fields.proofs.Shifts.{moved_below, moved_whole, moved_le}
-use Rattle.register_fields.proofs.fields.term_of.Goals as goal
+use Rattle.register_fields.proofs.fields.field_value.Goals as goal
 
 pub overflow_cast-result-2 : goal.overflow_cast-result-2
 overflow_cast-result-2 c =
