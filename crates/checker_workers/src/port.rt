@@ -70,6 +70,7 @@ impl Port {
     }
 
     // One event of the port's caller.
+    #[inline(always)]
     fn make(&mut self, shared: &Shared, event: Event) -> Reply
         requires belongs { Belongs self.old shared.now }
         requires left { 1 ≤ self.old.left }

@@ -40,6 +40,7 @@ impl<M: Machine> Model for Caller<M> {
 
 impl<M: Machine> Caller<M> {
     /// The number of the caller, below the number of callers of its log and so below 32.
+    #[inline]
     pub fn number(&self) -> u8
         ensures number { result ≡ self.now.number }
         ensures below { self.now.number < self.now.callers }
@@ -50,6 +51,7 @@ impl<M: Machine> Caller<M> {
 
     /// How many events the caller has seen, its own among them, which is the place of its next event
     /// at the earliest. It says all that holds of a caller.
+    #[inline]
     pub fn place(&self) -> u32
         ensures place { result ≡ length self.now.log }
         ensures room { result ≤ self.now.callers * self.now.budget }
@@ -59,6 +61,7 @@ impl<M: Machine> Caller<M> {
     }
 
     /// How many events the caller may still make. These and the calls that it made are its budget.
+    #[inline]
     pub fn left(&self) -> u32
         ensures left { result ≡ self.now.left }
         ensures budget { KeepsBudget self.now }
@@ -68,6 +71,7 @@ impl<M: Machine> Caller<M> {
 
     /// Makes an event, after all events of others that it had not seen, and answers what the machine
     /// replies to it at its place. It never waits, and while events are left it is never refused.
+    #[inline(always)]
     pub fn call(&mut self, shared: &Shared, event: Event) -> Reply
         requires belongs { Belongs self.old shared.now }
         requires left { 1 ≤ self.old.left }
