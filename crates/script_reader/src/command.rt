@@ -11,6 +11,7 @@ use crate::step::{ABSENT_UNIT, MISPLACED, MISSHAPEN, NOT_A_KIND, OUT_OF_RANGE};
 use crate::words::Words;
 use event_words::{Access, Command, Kind, Stages};
 
+#[inline(always)]
 #[tactic(auto, unfolding(crate::specs::Commands::unit_at))]
 fn unit(units: u8, word: &[u8]) -> Result<u8, u8>
     ensures value { result ≡ unit_at units word.now }
@@ -23,6 +24,7 @@ fn unit(units: u8, word: &[u8]) -> Result<u8, u8>
     Ok(n as u8)
 }
 
+#[inline(always)]
 #[tactic(auto, unfolding(crate::specs::Commands::index_at))]
 fn index(word: &[u8]) -> Result<u32, u8>
     ensures value { result ≡ index_at word.now }
@@ -35,6 +37,7 @@ fn index(word: &[u8]) -> Result<u32, u8>
     Ok((offset / 4) as u32)
 }
 
+#[inline(always)]
 fn value(word: &[u8]) -> Result<u32, u8>
     ensures value { result ≡ value_at word.now }
     ensures below { IfOk result (λ n. n < 2 ^ 32) }
@@ -43,6 +46,7 @@ fn value(word: &[u8]) -> Result<u32, u8>
     Ok(n as u32)
 }
 
+#[inline(always)]
 fn max(word: &[u8]) -> Result<u32, u8>
     ensures value { result ≡ max_at word.now }
     ensures within { IfOk result (λ max. IsMax max) }

@@ -55,6 +55,8 @@ fn short_numeral(base: u64, digits: &[u8]) -> Option<u64>
 
 /// The number that digits write: none where one isn't a digit of the base, and then none where it is above the greatest
 /// of 64 bits.
+#[cold]
+#[inline(never)]
 fn long_numeral(base: u64, digits: &[u8]) -> Option<Option<u64>>
     requires low { 1 ≤ base }
     requires high { base ≤ 16 }
@@ -88,6 +90,7 @@ fn numeral(base: u64, most: usize, digits: &[u8]) -> Option<Option<u64>>
     }
 }
 
+#[inline(always)]
 #[tactic(auto, unfolding(crate::specs::Numbers::number_of))]
 fn number_in(word: &[u8]) -> Option<Option<u64>>
     ensures { option_map held result ≡ option_map (λ n. min n (2 ^ 64)) (number_of word.now) }
@@ -108,6 +111,7 @@ fn in_64_bits(number: Option<u64>) -> Result<u64, u8>
 }
 
 /// The number that a word writes. It is out of range above the greatest of 64 bits.
+#[inline(always)]
 pub fn number(word: &[u8]) -> Result<u64, u8>
     ensures { result ≡ number_at word.now }
 {
@@ -118,6 +122,7 @@ pub fn number(word: &[u8]) -> Result<u64, u8>
 }
 
 /// A number from `low` to `high`.
+#[inline(always)]
 #[tactic(auto, unfolding(crate::specs::Numbers::ranged))]
 pub fn number_within(word: &[u8], low: u64, high: u64) -> Result<u64, u8>
     ensures value { result ≡ ranged low high word.now }
