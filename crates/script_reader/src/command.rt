@@ -1,8 +1,9 @@
 // The commands that lines write.
-ghost use Rattle.std.specs.Prelude.{◌≡◌, ◌<◌, ◌≤◌, ◌^◌, ℕ, true, false, length, IfOk};
+ghost use Rattle.std.specs.Prelude.{◌≡◌, ◌<◌, ◌≤◌, ◌^◌, ℕ, true, false, length, codes, IfOk};
 ghost use Rattle.event_words.specs.Valid.{IsValidAccess};
 ghost use Rattle.event_words.specs.Sections.{IsMax, is_submit};
 ghost use Rattle.script_reader.specs.Sound.{IsGoodStages, IsGoodCommand};
+ghost use Rattle.script_reader.specs.Words.{is_word_at};
 ghost use Rattle.script_reader.specs.Commands.{unit_at, index_at, value_at, max_at, kind_at, access_at, stage_at, stages_at, write_at, read_at, submit_at, judge_at, settle_at, until_at, through_at, command_at};
 
 use crate::name::Names;
@@ -126,8 +127,10 @@ fn stages(units: u8, words: &Words<'_>, count: usize) -> Result<Stages, u8>
     })
 }
 
+/// The command of a line `w`.
+#[inline(always)]
 #[tactic(auto, unfolding(crate::specs::Commands::write_at))]
-fn write(units: u8, words: &Words<'_>) -> Result<Command, u8>
+pub fn write(units: u8, words: &Words<'_>) -> Result<Command, u8>
     requires some { 1 ≤ units }
     requires few { units ≤ 4 }
     ensures value { result ≡ write_at units words.now }
@@ -250,18 +253,17 @@ fn through(units: u8, words: &Words<'_>) -> Result<Command, u8>
     })
 }
 
-/// The command of a line other than a submission.
+/// The command of a line other than a submission or a write.
 #[tactic(auto, unfolding(crate::specs::Commands::command_at))]
 pub fn command(units: u8, names: &Names<'_>, words: &Words<'_>) -> Result<Command, u8>
+    requires other { is_word_at words.now 0 (codes "w") ≡ false }
     requires some { 1 ≤ units }
     requires few { units ≤ 4 }
     ensures value { result ≡ command_at units names.now words.now }
     ensures good { IfOk result (λ command. IsGoodCommand units (length names.now) command) }
     ensures other { IfOk result (λ command. is_submit command ≡ false) }
 {
-    if words.is_word(0, b"w") {
-        write(units, words)
-    } else if words.is_word(0, b"r") {
+    if words.is_word(0, b"r") {
         read(units, words)
     } else if words.is_word(0, b"j") {
         judge(names, words)

@@ -1,10 +1,11 @@
 // Reads a script line by line.
-ghost use Rattle.std.specs.Prelude.{◌≡◌, ◌+◌, ◌<◌, ◌≤◌, true, length, OnOk};
+ghost use Rattle.std.specs.Prelude.{◌≡◌, ◌+◌, ◌<◌, ◌≤◌, true, false, length, codes, OnOk};
 ghost use Rattle.script_reader.specs.Lines as spec;
 ghost use Rattle.script_reader.specs.Numbers.{number_at};
 ghost use Rattle.script_reader.specs.Text.{IsPlainLine};
+ghost use Rattle.script_reader.specs.Words.{is_word_at};
 
-use crate::command::{command, submit};
+use crate::command::{command, submit, write};
 use crate::number::number;
 use crate::section::OpenSection;
 use crate::step::{MISPLACED, MISSHAPEN, NO_HEAD, NOT_PLAIN, OUT_OF_RANGE, StepError};
@@ -218,10 +219,25 @@ impl<'a> Reader<'a> {
         self.section.submit(command, words.word(7))
     }
 
+    /// A write, which is meant most often, adds its command where it is made.
+    #[tactic(auto, unfolding(crate::specs::Lines::command_step, crate::specs::Commands::command_at))]
+    fn write_line(&mut self, words: &Words<'a>) -> Result<(), StepError>
+        requires in_section { IsInSection self.old.place }
+        requires sound { IsSound self.old }
+        requires write { is_word_at words.now 0 (codes "w") ≡ true }
+        ensures value { Moves result self.new (spec.command_step self.old words.now) }
+        ensures sound { OnOk result (IsSound self.new) }
+        ensures grown { OnOk result (length self.new.section.commands ≤ length self.old.section.commands + 1) }
+    {
+        let command = write(self.shapes.len() as u8, words)?;
+        self.section.push(command)
+    }
+
     #[tactic(auto, unfolding(crate::specs::Lines::command_step))]
     fn command_line(&mut self, words: &Words<'a>) -> Result<(), StepError>
         requires in_section { IsInSection self.old.place }
         requires sound { IsSound self.old }
+        requires other { is_word_at words.now 0 (codes "w") ≡ false }
         ensures value { Moves result self.new (spec.command_step self.old words.now) }
         ensures sound { OnOk result (IsSound self.new) }
         ensures grown { OnOk result (length self.new.section.commands ≤ length self.old.section.commands + 1) }
@@ -262,6 +278,8 @@ impl<'a> Reader<'a> {
             self.end_line(alloc, words)
         } else if words.is_word(0, b"t") {
             self.submit_line(words)
+        } else if words.is_word(0, b"w") {
+            self.write_line(words)
         } else {
             self.command_line(words)
         }
