@@ -1,12 +1,14 @@
 -- The lines of a text, byte by byte, and the parts of an input, line by line.
-use Rattle.std.proofs.Common.{◌≡◌, ◌≢◌, ℕ, ◌+◌, ◌-◌, ◌<◌, Bool, true, false, cond, if◌then◌else◌, ◌++◌, List, [], ◌∷◌, Ok, take, drop, get_or, length, codes, drop-cons, add-one, refl, sym, ap, ◌∙◌, ne_eqb, eq-eqb, arith}
+use Rattle.std.proofs.Common.{◌≡◌, ℕ, ◌+◌, ◌-◌, ◌<◌, not, Bool, true, false, cond, if◌then◌else◌, ◌++◌, List, [], ◌∷◌, Ok, take, drop, get_or, length, codes, drop-cons, add-one, take-append-drop, refl, sym, ap, ◌∙◌, eq-eqb, arith}
 use Rattle.std.specs.Prelude.{◌==◌}
 use Rattle.std.specs.List.{concat}
 use Rattle.std.proofs.Math.Seq.{take-add}
-use Rattle.std.proofs.lemmas.List.{take_more, take_rest, drop-drop}
-use Rattle.script_reader.specs.Text.{words_of, without_last_line_feed}
+use Rattle.std.proofs.lemmas.List.{append-nil, take_more, take_rest, drop-drop}
+use Rattle.std.proofs.lemmas.List.Sums.{passes_at_first}
+use Rattle.script_reader.specs.Text.{is_line_feed, line_end, first_line, words_of, without_last_line_feed}
 use Rattle.script_reader.specs.UpdateTexts.{is_heading}
 use Rattle.script_reader.specs.ReportTexts.{ReportTextOf, fed_lines, with_byte, report_text_from, report_text_at}
+use Rattle.script_reader.proofs.Parts.{clear, not_true, and_left, and_right, clear_before, without_append, last_clear, is_ten}
 
 -- lines, of which the first has these bytes before it
 abbrev pub onto : List ℕ → List (List ℕ) → List (List ℕ)
@@ -28,21 +30,13 @@ onto_none b (c ∷ bs) = ap (with_byte b) (onto_none c bs)
 left_more : (bytes : List ℕ) (i : ℕ) → i < length bytes → drop i bytes ≡ get_or bytes i 0 ∷ drop (i + 1) bytes
 left_more bytes i h = drop-cons bytes i 0 h ∙ ap (λ n. get_or bytes i 0 ∷ drop n bytes) (sym (add-one i))
 
-other_byte : (b : ℕ) (bs : List ℕ) → b ≢ 10 → fed_lines (b ∷ bs) ≡ with_byte b (fed_lines bs)
-other_byte b bs h = ap (λ t. cond t ((b ∷ []) ∷ fed_lines bs) (with_byte b (fed_lines bs))) (ne_eqb b 10 h)
+other_byte : (b : ℕ) (bs : List ℕ) → is_line_feed b ≡ false → fed_lines (b ∷ bs) ≡ with_byte b (fed_lines bs)
+other_byte b bs h = ap (λ t. cond t ((b ∷ []) ∷ fed_lines bs) (with_byte b (fed_lines bs))) h
 
 line_feed : (b : ℕ) (bs : List ℕ) → b ≡ 10 → fed_lines (b ∷ bs) ≡ (b ∷ []) ∷ fed_lines bs
 line_feed b bs h = ap (λ t. cond t ((b ∷ []) ∷ fed_lines bs) (with_byte b (fed_lines bs))) (eq-eqb b 10 h)
 
--- a byte more that is no line feed
-pub byte_more : (bytes : List ℕ) (i : ℕ) → i < length bytes → get_or bytes i 0 ≢ 10
-    → fed_lines bytes ≡ onto (take i bytes) (fed_lines (drop i bytes)) → fed_lines bytes ≡ onto (take (i + 1) bytes) (fed_lines (drop (i + 1) bytes))
-byte_more bytes i h n e =
-    let b = get_or bytes i 0 in
-    e ∙ ap (λ bs. onto (take i bytes) (fed_lines bs)) (left_more bytes i h) ∙ ap (onto (take i bytes)) (other_byte b (drop (i + 1) bytes) n)
-    ∙ sym (onto_more (take i bytes) b (fed_lines (drop (i + 1) bytes))) ∙ ap (λ bs. onto bs (fed_lines (drop (i + 1) bytes))) (sym (take_more bytes i 0 h))
-
-pub line_ends : (bytes : List ℕ) (i : ℕ) → i < length bytes → get_or bytes i 0 ≡ 10
+line_ends : (bytes : List ℕ) (i : ℕ) → i < length bytes → get_or bytes i 0 ≡ 10
     → fed_lines bytes ≡ onto (take i bytes) (fed_lines (drop i bytes)) → fed_lines bytes ≡ take (i + 1) bytes ∷ fed_lines (drop (i + 1) bytes)
 line_ends bytes i h n e =
     let b = get_or bytes i 0 in
@@ -62,7 +56,7 @@ whole [] h = absurd (omega (arith, h))
 whole (b ∷ bs) h = onto_none b bs
 
 -- a text without line feeds is one line
-pub text_ends : (bytes : List ℕ) (i : ℕ) → 0 < length bytes → i ≡ length bytes
+text_ends : (bytes : List ℕ) (i : ℕ) → 0 < length bytes → i ≡ length bytes
     → fed_lines bytes ≡ onto (take i bytes) (fed_lines (drop i bytes)) → fed_lines bytes ≡ take (length bytes) bytes ∷ fed_lines (drop (length bytes) bytes)
 text_ends bytes i h same e =
     e ∙ ap (λ n. onto (take n bytes) (fed_lines (drop n bytes))) same
@@ -70,6 +64,35 @@ text_ends bytes i h same e =
     ∙ ap (λ bs. onto bs []) (take_all bytes) ∙ whole bytes h
     ∙ ap (λ bs. bs ∷ []) (sym (take_all bytes))
     ∙ ap (λ bs. take (length bytes) bytes ∷ fed_lines bs) (sym (drop_all bytes))
+
+-- bytes that are no line feeds stand before the first of the other lines
+clear_onto : (xs ys : List ℕ) → clear is_line_feed xs ≡ true → fed_lines (xs ++ ys) ≡ onto xs (fed_lines ys)
+clear_onto [] ys h = refl
+clear_onto (x ∷ xs) ys h = other_byte x (xs ++ ys) (not_true (is_line_feed x) (and_left (not (is_line_feed x)) _ h)) ∙ ap (with_byte x) (clear_onto xs ys (and_right (not (is_line_feed x)) _ h))
+
+first_onto : (bytes : List ℕ) → fed_lines bytes ≡ onto (first_line bytes) (fed_lines (drop (line_end bytes) bytes))
+first_onto bytes = ap fed_lines (sym (take-append-drop (line_end bytes) bytes)) ∙ clear_onto (first_line bytes) (drop (line_end bytes) bytes) (clear_before is_line_feed bytes)
+
+ten_there : (bytes : List ℕ) → line_end bytes < length bytes → get_or bytes (line_end bytes) 0 ≡ 10
+ten_there bytes h = is_ten _ (passes_at_first is_line_feed bytes 0 h)
+
+pub fed_first : (bytes : List ℕ) → line_end bytes < length bytes → fed_lines bytes ≡ take (line_end bytes + 1) bytes ∷ fed_lines (drop (line_end bytes + 1) bytes)
+fed_first bytes h = line_ends bytes (line_end bytes) h (ten_there bytes h) (first_onto bytes)
+
+pub fed_last : (bytes : List ℕ) → 0 < length bytes → line_end bytes ≡ length bytes → fed_lines bytes ≡ take (length bytes) bytes ∷ fed_lines (drop (length bytes) bytes)
+fed_last bytes h same = text_ends bytes (line_end bytes) h same (first_onto bytes)
+
+pub bare_first : (bytes : List ℕ) → line_end bytes < length bytes → without_last_line_feed (take (line_end bytes + 1) bytes) ≡ first_line bytes
+bare_first bytes h =
+    ap without_last_line_feed (take_more bytes (line_end bytes) 0 h ∙ ap (λ b. first_line bytes ++ b ∷ []) (ten_there bytes h))
+    ∙ without_append (first_line bytes) 10 [] ∙ append-nil (first_line bytes)
+
+pub bare_last : (bytes : List ℕ) → without_last_line_feed (first_line bytes) ≡ first_line bytes
+bare_last bytes = by (first_line bytes) (clear_before is_line_feed bytes)
+  where
+    by : (line : List ℕ) → clear is_line_feed line ≡ true → without_last_line_feed line ≡ line
+    by [] h = refl
+    by (b ∷ bs) h = last_clear b bs h
 
 -- the lines of a text are the text
 pub concat_fed : (bytes : List ℕ) → concat (fed_lines bytes) ≡ bytes

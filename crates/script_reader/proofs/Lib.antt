@@ -4,6 +4,7 @@ pub mod LineSteps
 pub mod Needs
 pub mod Numerals
 pub mod FedLines
+pub mod FirstLine
 pub mod Parts
 pub mod SlotNames
 pub mod Slots

@@ -12,7 +12,7 @@ use Rattle.script_reader.specs.Text.{is_line_feed, is_blank, is_plain, is_plain_
 abbrev pub clear : (ℕ → Bool) → List ℕ → Bool
 clear p xs = list_all (λ b. not (p b)) xs
 
-not_true : (b : Bool) → not b ≡ true → b ≡ false
+pub not_true : (b : Bool) → not b ≡ true → b ≡ false
 not_true true e = cc
 not_true false e = refl
 
@@ -39,7 +39,7 @@ split_at p (x ∷ xs) y ys h hit =
     ∙ ap (onto_first x) (split_at p xs y ys (and_right (not (p x)) (clear p xs) h) hit)
 
 -- before the first that passes none does
-clear_before : (p : ℕ → Bool) (xs : List ℕ) → clear p (before_first p xs) ≡ true
+pub clear_before : (p : ℕ → Bool) (xs : List ℕ) → clear p (before_first p xs) ≡ true
 clear_before p [] = refl
 clear_before p (x ∷ xs) = by (clear_before p xs) (p x) refl
   where
@@ -63,7 +63,7 @@ without_more x y ys =
     by true = refl
     by false = refl
 
-without_append : (xs : List ℕ) (y : ℕ) (ys : List ℕ) → without_last_line_feed (xs ++ y ∷ ys) ≡ xs ++ without_last_line_feed (y ∷ ys)
+pub without_append : (xs : List ℕ) (y : ℕ) (ys : List ℕ) → without_last_line_feed (xs ++ y ∷ ys) ≡ xs ++ without_last_line_feed (y ∷ ys)
 without_append [] y ys = refl
 without_append (x ∷ []) y ys = without_more x y ys
 without_append (x ∷ (z ∷ zs)) y ys = without_more x z (zs ++ y ∷ ys) ∙ ap (λ l. x ∷ l) (without_append (z ∷ zs) y ys)
@@ -88,7 +88,7 @@ lines_of_line line (y ∷ ys) h =
     ∙ ap (λ l. line ∷ l) (sym (lines_of_some (y ∷ ys) (omega arith)))
 
 -- the last byte of a line without line feeds isn't one
-last_clear : (x : ℕ) (xs : List ℕ) → clear is_line_feed (x ∷ xs) ≡ true → without_last_line_feed (x ∷ xs) ≡ x ∷ xs
+pub last_clear : (x : ℕ) (xs : List ℕ) → clear is_line_feed (x ∷ xs) ≡ true → without_last_line_feed (x ∷ xs) ≡ x ∷ xs
 last_clear x [] h = by (x == 10) (not_true (x == 10) (and_left (not (x == 10)) true h))
   where
     by : (b : Bool) → b ≡ false → (if b then [] else x ∷ []) ≡ x ∷ []
@@ -106,7 +106,7 @@ found p xs n e = grind (arith, nat_tests)
 absent : (p : ℕ → Bool) (xs : List ℕ) → position p xs ≡ None → length xs ≤ position_or_len p xs
 absent p xs e = grind (arith, nat_tests)
 
-is_ten : (x : ℕ) → (x == 10) ≡ true → x ≡ 10
+pub is_ten : (x : ℕ) → (x == 10) ≡ true → x ≡ 10
 is_ten x e = grind (arith, nat_tests)
 
 -- no element passes where there is no first

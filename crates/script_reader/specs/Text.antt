@@ -1,7 +1,7 @@
 -- The lines of a text and the words of a line.
 use Rattle.std.specs.Prelude.{◌≡◌, ℕ, ◌-◌, ◌==◌, ◌&&◌, ◌||◌, nat_le, Bool, true, if◌then◌else◌, List, [], ◌∷◌, None, Some, length, filter, not, take, slice_index}
 use Rattle.std.specs.declared.option.Option.{Option}
-use Rattle.std.specs.List.{list_all, slice_split}
+use Rattle.std.specs.List.{list_all, slice_split, position_or_len}
 use denote.Ref.{Bor}
 
 abbrev pub is_line_feed : ℕ → Bool
@@ -21,6 +21,18 @@ is_plain_or_feed b = is_plain b || is_line_feed b
 
 abbrev pub IsPlainLine : List ℕ → Type 0
 IsPlainLine line = list_all is_plain line ≡ true
+
+-- where the first line of a text ends
+abbrev pub line_end : List ℕ → ℕ
+line_end text = position_or_len is_line_feed text
+
+-- the first line of a text, without its line feed
+abbrev pub first_line : List ℕ → List ℕ
+first_line text = take (line_end text) text
+
+-- a blank or a line feed ends a word
+abbrev pub ends_word : ℕ → Bool
+ends_word b = is_blank b || is_line_feed b
 
 -- the text without the line feed at its end, if it has one
 abbrev pub without_last_line_feed : List ℕ → List ℕ

@@ -2,7 +2,7 @@
 ghost use Rattle.std.specs.Prelude.{◌≡◌, ◌+◌, ◌≤◌, true, length, IfOk, OnOk};
 ghost use Rattle.script_reader.specs.LiveLanes.{IsLiveState, AreLiveLanes, ReadsLanes};
 ghost use Rattle.script_reader.specs.LiveLanes as spec;
-ghost use Rattle.script_reader.specs.Text.{IsPlainLine};
+ghost use Rattle.script_reader.specs.Text.{IsPlainLine, words_of};
 ghost use Rattle.script_reader.specs.Sound.{IsSound};
 
 use crate::reader::{Reader, ScriptPart, is_skipped};
@@ -75,26 +75,26 @@ impl<'a> Reader<'a> {
         self.placed_line(alloc, words)
     }
 
-    /// Reads one more line of the lanes. `words` serves each line in turn, and `plain` tells that the line is known to be plain.
+    /// Reads one more line of the lanes, which has these words. `plain` tells that it is known to be plain.
     #[tactic(auto, unfolding(crate::specs::LiveLanes::lanes_line_step))]
     fn lanes_line(
         &mut self,
         alloc: Global,
-        words: &mut Words<'a>,
-        line: &'a [u8],
+        words: &Words<'a>,
+        line: &[u8],
         plain: bool,
     ) -> Result<(), StepError>
         requires room { length self.old.section.commands ≤ 4194304 }
         requires sound { IsSound self.old }
+        requires words { words.now ≡ words_of line.now }
         requires plain { plain ≡ true → IsPlainLine line.now }
-        ensures value { Moves result self.new (spec.lanes_line_step self.old line.entry.now) }
+        ensures value { Moves result self.new (spec.lanes_line_step self.old line.now) }
         ensures sound { OnOk result (IsSound self.new) }
         ensures grown { OnOk result (length self.new.section.commands ≤ length self.old.section.commands + 1) }
     {
         if !text::is_plain_line(line, plain) {
             return Err(StepError::Code(NOT_PLAIN));
         }
-        words.read(line);
         self.lanes_words_line(alloc, words)
     }
 }
@@ -137,8 +137,8 @@ pub fn read_lanes(alloc: Global, bytes: &[u8], first_line: u32) -> Result<Vec<Se
     let mut words = Words::new();
     let mut lines = Lines::of(bytes);
     let mut number = first_line;
-    while let Some(line) = lines.next() {
-        if let Err(error) = reader.lanes_line(alloc, &mut words, line, plain) {
+    while let Some(line) = lines.next(&mut words) {
+        if let Err(error) = reader.lanes_line(alloc, &words, line, plain) {
             return Err(refusal(number, error));
         }
         number += 1;

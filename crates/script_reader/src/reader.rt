@@ -2,7 +2,7 @@
 ghost use Rattle.std.specs.Prelude.{◌≡◌, ◌+◌, ◌<◌, ◌≤◌, true, false, length, codes, OnOk};
 ghost use Rattle.script_reader.specs.Lines as spec;
 ghost use Rattle.script_reader.specs.Numbers.{number_at};
-ghost use Rattle.script_reader.specs.Text.{IsPlainLine};
+ghost use Rattle.script_reader.specs.Text.{IsPlainLine, words_of};
 ghost use Rattle.script_reader.specs.Words.{is_word_at};
 
 use crate::command::{command, submit, write};
@@ -314,26 +314,26 @@ impl<'a> Reader<'a> {
         self.placed_line(alloc, words)
     }
 
-    /// Reads one more line. `words` serves each line in turn, and `plain` tells that the line is known to be plain.
+    /// Reads one more line, which has these words. `plain` tells that it is known to be plain.
     #[tactic(auto, unfolding(crate::specs::Lines::line_step))]
     pub fn line(
         &mut self,
         alloc: Global,
-        words: &mut Words<'a>,
-        line: &'a [u8],
+        words: &Words<'a>,
+        line: &[u8],
         plain: bool,
     ) -> Result<(), StepError>
         requires room { length self.old.section.commands ≤ 4194304 }
         requires sound { IsSound self.old }
+        requires words { words.now ≡ words_of line.now }
         requires plain { plain ≡ true → IsPlainLine line.now }
-        ensures value { Moves result self.new (spec.line_step self.old line.entry.now) }
+        ensures value { Moves result self.new (spec.line_step self.old line.now) }
         ensures sound { OnOk result (IsSound self.new) }
         ensures grown { OnOk result (length self.new.section.commands ≤ length self.old.section.commands + 1) }
     {
         if !text::is_plain_line(line, plain) {
             return Err(StepError::Code(NOT_PLAIN));
         }
-        words.read(line);
         self.words_line(alloc, words)
     }
 }

@@ -1,6 +1,6 @@
 // Reads the input of an audit: the lines before its heading, and the bytes after it.
 ghost use Rattle.std.specs.Prelude.{◌≡◌, ◌<◌, ◌≤◌, ◌∷◌, length, take, drop, IfOk};
-ghost use Rattle.script_reader.specs.Text.{without_last_line_feed};
+ghost use Rattle.script_reader.specs.Text.{line_end, first_line, without_last_line_feed};
 ghost use Rattle.script_reader.specs.Answers.{Reads};
 ghost use Rattle.script_reader.specs.UpdateTexts as spec;
 ghost use Rattle.script_reader.specs.ReportTexts.{fed_lines, report_text_at};
@@ -28,31 +28,16 @@ impl<'a> Model for ReportText<'a> {
     ghost view = { λ t. record { script = t.script.now; heading = t.heading; report = t.report.now } };
 }
 
-/// The length of the first line, with its line feed, which the last one may lack.
-fn line_length(bytes: &[u8]) -> usize
-    requires { 0 < length bytes.now }
+/// The length of a first line that ends at a place, with its line feed, which the last one may lack.
+fn fed_length(bytes: &[u8], end: usize) -> usize
+    requires some { 0 < length bytes.now }
+    requires line { end ≡ line_end bytes.now }
     ensures some { 0 < result }
     ensures few { result ≤ length bytes.now }
     ensures line { fed_lines bytes.now ≡ take result bytes.now ∷ fed_lines (drop result bytes.now) }
+    ensures bare { without_last_line_feed (take result bytes.now) ≡ first_line bytes.now }
 {
-    for i in 0..bytes.len() {
-        if bytes[i] == b'\n' {
-            return i + 1;
-        }
-    }
-    bytes.len()
-}
-
-/// A line without its line feed, if it has one.
-fn bare(line: &[u8]) -> &[u8]
-    requires { 0 < length line.now }
-    ensures { result.now ≡ without_last_line_feed line.now }
-{
-    let last = line.len() - 1;
-    if line[last] == b'\n' {
-        return &line[..last];
-    }
-    line
+    if end < bytes.len() { end + 1 } else { end }
 }
 
 /// The parts of an input of at most 4194304 bytes. The first line of the words `== report` ends the script.
@@ -67,8 +52,8 @@ pub fn read_report_text<'a>(bytes: &'a [u8]) -> Result<ReportText<'a>, ScriptErr
     let mut start = 0;
     let mut number = 1u32;
     while start < bytes.len() {
-        let end = start + line_length(&bytes[start..]);
-        words.read(bare(&bytes[start..end]));
+        let rest = &bytes[start..];
+        let end = start + fed_length(rest, words.read(rest));
         if is_heading(&words, b"report") {
             return Ok(ReportText {
                 script: &bytes[..start],

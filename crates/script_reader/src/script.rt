@@ -132,8 +132,8 @@ fn read_lines(alloc: Global, bytes: &[u8]) -> Result<Script, ScriptError>
     let mut words = Words::new();
     let mut lines = Lines::of(bytes);
     let mut number = 1u32;
-    while let Some(line) = lines.next() {
-        if let Err(error) = reader.line(alloc, &mut words, line, plain) {
+    while let Some(line) = lines.next(&mut words) {
+        if let Err(error) = reader.line(alloc, &words, line, plain) {
             return Err(refusal(number, error));
         }
         number += 1;

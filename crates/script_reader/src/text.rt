@@ -1,8 +1,9 @@
 // The lines of a text, one after another.
-ghost use Rattle.std.specs.Prelude.{◌≡◌, ◌+◌, ◌≤◌, true, length, position};
+ghost use Rattle.std.specs.Prelude.{◌≡◌, true, IfSome};
 ghost use Rattle.std.specs.List.{list_all};
-ghost use Rattle.script_reader.specs.Text.{is_line_feed, is_plain, is_plain_or_feed, IsPlainLine, lines_of, Takes};
+ghost use Rattle.script_reader.specs.Text.{is_plain, is_plain_or_feed, IsPlainLine, lines_of, words_of, Takes};
 
+use crate::words::Words;
 use std::marker::Model;
 
 fn is_plain_byte(byte: u8) -> bool
@@ -42,12 +43,6 @@ pub fn is_plain_line(line: &[u8], known: bool) -> bool
     known || are_plain_bytes(line)
 }
 
-fn first_line_feed(text: &[u8]) -> Option<usize>
-    ensures { result ≡ position is_line_feed text.now }
-{
-    text.iter().position(|b| *b == b'\n')
-}
-
 /// The lines of a text that are left.
 #[derive(Drop)]
 pub struct Lines<'a> {
@@ -71,23 +66,21 @@ impl<'a> Lines<'a> {
         Lines { rest: text }
     }
 
-    /// Takes the first line, without its line feed.
-    pub fn next(&mut self) -> Option<&'a [u8]>
-        ensures { Takes self.old self.new result }
+    /// Takes the first line, without its line feed, and its words.
+    pub fn next(&mut self, words: &mut Words<'a>) -> Option<&'a [u8]>
+        ensures line { Takes self.old self.new result }
+        ensures words { IfSome result (λ line. words.new ≡ words_of line.now) }
     {
         let text = self.rest;
         if text.is_empty() {
             return None;
         }
-        match first_line_feed(text) {
-            Some(end) => {
-                self.rest = &text[end + 1..];
-                Some(&text[..end])
-            }
-            None => {
-                self.rest = &[];
-                Some(text)
-            }
+        let end = words.read(text);
+        if end < text.len() {
+            self.rest = &text[end + 1..];
+            return Some(&text[..end]);
         }
+        self.rest = &[];
+        Some(text)
     }
 }

@@ -268,8 +268,7 @@ pub fn read_update(alloc: Global, bytes: &[u8], with_lanes: bool) -> Result<Upda
     let mut words = Words::new();
     let mut lines = Lines::of(bytes);
     let mut number = 1u32;
-    while let Some(line) = lines.next() {
-        words.read(line);
+    while let Some(line) = lines.next(&mut words) {
         match reader.line(after, number, &words, line) {
             Ok(next) => reader = next,
             Err(error) => return Err(refusal(number, error)),

@@ -1,6 +1,6 @@
 // The words of one line.
-ghost use Rattle.std.specs.Prelude.{◌≡◌, ◌==◌, ◌+◌, ◌<◌, ◌≤◌, [], false, length, position, slice_index, slice_set};
-ghost use Rattle.script_reader.specs.Text.{is_blank, words_of};
+ghost use Rattle.std.specs.Prelude.{◌≡◌, ◌==◌, ◌<◌, [], false, length, slice_index, slice_set};
+ghost use Rattle.script_reader.specs.Text.{is_blank, ends_word, line_end, first_line, words_of};
 ghost use Rattle.script_reader.specs.Words.{word_at, is_word_at, HoldsWords, IsWordTo};
 
 use std::marker::Model;
@@ -14,22 +14,27 @@ fn is_blank_byte(byte: u8) -> bool
     byte == b' ' || byte == b'\t' || byte == b'\r'
 }
 
-fn first_blank(bytes: &[u8]) -> Option<usize>
-    ensures { result ≡ position is_blank bytes.now }
+/// Whether a word ends before a byte.
+fn ends_word(byte: u8) -> bool
+    ensures { result ≡ ends_word byte }
 {
-    bytes.iter().position(|b| is_blank_byte(*b))
+    is_blank_byte(byte) || byte == b'\n'
 }
 
-/// Where the word ends that begins at a place.
-fn word_end(line: &[u8], start: usize) -> usize
-    requires within { start < length line.now }
-    requires begins { is_blank (slice_index line.now start) ≡ false }
-    ensures { IsWordTo line.now start result }
+/// Where the word ends that begins at a place of a text's first line.
+fn word_end(text: &[u8], start: usize) -> usize
+    requires within { start < line_end text.now }
+    requires begins { is_blank (slice_index text.now start) ≡ false }
+    ensures { IsWordTo (first_line text.now) start result }
 {
-    match first_blank(&line[start..]) {
-        Some(len) => start + len,
-        None => line.len(),
+    let mut end = start + 1;
+    while end < text.len() {
+        if ends_word(text[end]) {
+            return end;
+        }
+        end += 1;
     }
+    end
 }
 
 /// Keeps a place where there is room for it.
@@ -41,24 +46,33 @@ fn keep(places: &mut [usize; MOST_WORDS], i: usize, place: usize)
     }
 }
 
-/// Where the words of a line begin and end, as far as places are kept, and how many there are.
-fn split(line: &[u8], starts: &mut [usize; MOST_WORDS], ends: &mut [usize; MOST_WORDS]) -> usize
-    ensures { HoldsWords line.now starts.new ends.new result }
+/// Where the words of a text's first line begin and end, as far as places are kept, how many there are, and where the
+/// line ends.
+fn split(
+    text: &[u8],
+    starts: &mut [usize; MOST_WORDS],
+    ends: &mut [usize; MOST_WORDS],
+) -> (usize, usize)
+    ensures line { result.1 ≡ line_end text.now }
+    ensures words { HoldsWords (first_line text.now) starts.new ends.new result.0 }
 {
     let mut count = 0;
     let mut at = 0;
-    while at < line.len() {
-        if is_blank_byte(line[at]) {
+    while at < text.len() {
+        if text[at] == b'\n' {
+            return (count, at);
+        }
+        if is_blank_byte(text[at]) {
             at += 1;
         } else {
-            let end = word_end(line, at);
+            let end = word_end(text, at);
             keep(starts, count, at);
             keep(ends, count, end);
             count += 1;
             at = end;
         }
     }
-    count
+    (count, at)
 }
 
 /// The words of a line. Only the places of the first 19 are kept, so that one value serves each line in turn.
@@ -95,12 +109,15 @@ impl<'a> Words<'a> {
         }
     }
 
-    /// The words of another line.
-    pub fn read(&mut self, line: &'a [u8])
-        ensures { self.new ≡ words_of line.entry.now }
+    /// The words of a text's first line instead. It answers where the line ends.
+    pub fn read(&mut self, text: &'a [u8]) -> usize
+        ensures line { result ≡ line_end text.entry.now }
+        ensures words { self.new ≡ words_of (first_line text.entry.now) }
     {
-        self.count = split(line, &mut self.starts, &mut self.ends);
-        self.line = line;
+        let (count, end) = split(text, &mut self.starts, &mut self.ends);
+        self.count = count;
+        self.line = &text[..end];
+        end
     }
 
     /// The number of words.

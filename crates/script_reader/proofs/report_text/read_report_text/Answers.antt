@@ -1,5 +1,5 @@
 -- The heading parts the input.
-use Rattle.std.proofs.Common.{◌≡◌, ◌+◌, ◌-◌, true, false, Ok, codes, take, drop, length, length-drop, sym, ap, ◌∙◌, arith}
+use Rattle.std.proofs.Common.{◌≡◌, ◌+◌, true, false, Ok, codes, take, drop, length, length-drop, sym, ap, ◌∙◌, arith}
 use Rattle.std.proofs.lemmas.List.{take_rest}
 use Rattle.script_reader.specs.Text.{words_of, without_last_line_feed}
 use Rattle.script_reader.specs.UpdateTexts.{is_heading}
@@ -11,10 +11,9 @@ pub returns-then-is_heading-clause-read : goal.returns-then-is_heading-clause-re
 returns-then-is_heading-clause-read c =
     let bytes = c.args.bytes.now in
     let start = c.loop-start.start in
-    let size = c.line_length.result in
-    let next = line_at bytes start size c.line_length.ensures.line in
-    let same : start + size - start ≡ size = omega arith in
-    let words = c.read.ensures ∙ ap words_of (c.bare.ensures ∙ ap (λ n. without_last_line_feed (take n (drop start bytes))) same) in
+    let size = c.fed_length.result in
+    let next = line_at bytes start size c.fed_length.ensures.line in
+    let words = c.read.ensures.words ∙ ap words_of (sym c.fed_length.ensures.bare ∙ ap (λ l. without_last_line_feed (take size l)) (take_rest bytes start)) in
     let heading : is_heading (words_of (without_last_line_feed (take size (drop start bytes)))) (codes "report") ≡ true =
     ap (λ ws. is_heading ws (codes "report")) (sym words) ∙ sym c.is_heading.ensures ∙ c.if-is_heading.true in
     heading_at bytes start size c.loop-start.number c.loop-start.invariant.parts next heading
@@ -24,14 +23,13 @@ pub loop-start-preserved : goal.loop-start-preserved
 loop-start-preserved c =
     let bytes = c.args.bytes.now in
     let start = c.loop-start.start in
-    let size = c.line_length.result in
-    let next = line_at bytes start size c.line_length.ensures.line in
-    let same : start + size - start ≡ size = omega arith in
-    let words = c.read.ensures ∙ ap words_of (c.bare.ensures ∙ ap (λ n. without_last_line_feed (take n (drop start bytes))) same) in
+    let size = c.fed_length.result in
+    let next = line_at bytes start size c.fed_length.ensures.line in
+    let words = c.read.ensures.words ∙ ap words_of (sym c.fed_length.ensures.bare ∙ ap (λ l. without_last_line_feed (take size l)) (take_rest bytes start)) in
     let heading : is_heading (words_of (without_last_line_feed (take size (drop start bytes)))) (codes "report") ≡ false =
     ap (λ ws. is_heading ws (codes "report")) (sym words) ∙ sym c.is_heading.ensures ∙ c.if-is_heading.false in
-    let some = c.line_length.ensures.some in
-    let few = c.line_length.ensures.few in
+    let some = c.fed_length.ensures.some in
+    let few = c.fed_length.ensures.few in
     let number = c.loop-start.invariant.few in
     record {
       parts = no_heading_at bytes start size c.loop-start.number c.loop-start.invariant.parts next heading;

@@ -16,9 +16,9 @@ loop-line-init c =
 
 pub loop-line-preserved : goal.loop-line-preserved
 loop-line-preserved c =
-    let count = fewer c.in-Some.line.now c.loop-line.lines c.next.new.self c.in-Some.ensures in (
-      sym (update_ok c.after_polls-after.result c.loop-line.reader c.in-Ok.next c.loop-line.number c.in-Some.line.now c.loop-line.lines c.next.new.self c.in-Some.ensures c.in-Ok.ensures) ∙ c.loop-line.invariant.0,
+    let count = fewer c.in-Some.line.now c.loop-line.lines c.next.new.self c.in-Some.ensures.line in (
+      sym (update_ok c.after_polls-after.result c.loop-line.reader c.in-Ok.next c.loop-line.number c.in-Some.line.now c.loop-line.lines c.next.new.self c.in-Some.ensures.line c.in-Ok.ensures) ∙ c.loop-line.invariant.0,
       omega (arith, c.loop-line.invariant.1, count),
-      onward c.args.with_lanes c.after_polls-after.result c.loop-line.reader c.in-Ok.next (length c.args.bytes.now + 1) c.loop-line.number c.in-Some.line.now c.loop-line.lines c.next.new.self c.after_polls-after.ensures c.in-Some.ensures
+      onward c.args.with_lanes c.after_polls-after.result c.loop-line.reader c.in-Ok.next (length c.args.bytes.now + 1) c.loop-line.number c.in-Some.line.now c.loop-line.lines c.next.new.self c.after_polls-after.ensures c.in-Some.ensures.line
           c.loop-line.invariant.2 c.in-Ok.ensures,
     )

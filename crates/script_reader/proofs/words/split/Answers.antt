@@ -1,11 +1,35 @@
--- A word more is found.
-use Rattle.std.proofs.Common.{◌+◌, slice_set, sym, subst}
-use Rattle.script_reader.proofs.Found.{Found, found_word}
+-- The bytes before the first line feed are the first line's. Each is a blank, or a word more begins there.
+use Rattle.std.proofs.Common.{◌+◌, slice_set, ap, sym, subst, ◌∙◌, arith}
+use Rattle.script_reader.specs.Text.{is_blank, first_line}
+use Rattle.script_reader.proofs.FirstLine.{line_length, same_byte, feed_ends, byte_within}
+use Rattle.script_reader.proofs.Found.{Found, found_all, found_blank, found_word}
 use Rattle.script_reader.proofs.words.split.Goals as goal
+
+pub returns-then-text-at-eq10-clause-line : goal.returns-then-text-at-eq10-clause-line
+returns-then-text-at-eq10-clause-line c =
+    feed_ends c.args.text.now c.loop-at.at (omega (arith, c.loop-at.invariant.within, line_length c.args.text.now)) c.if-text-at-eq10.true
+
+pub returns-then-text-at-eq10-clause-words : goal.returns-then-text-at-eq10-clause-words
+returns-then-text-at-eq10-clause-words c =
+    let long = line_length c.args.text.now in
+    let ends = feed_ends c.args.text.now c.loop-at.at (omega (arith, c.loop-at.invariant.within, long)) c.if-text-at-eq10.true in
+    found_all (first_line c.args.text.now) c.loop-at.starts c.loop-at.ends c.loop-at.count c.loop-at.at (omega (arith, long, ends)) c.loop-at.invariant
+
+pub loop-at-preserved-then-is_blank_byte : goal.loop-at-preserved-then-is_blank_byte
+loop-at-preserved-then-is_blank_byte c =
+    let text = c.args.text.now in
+    let long = line_length text in
+    let here = byte_within text c.loop-at.at (omega (arith, c.loop-at.invariant.within, long)) c.loop-at-test.true c.if-text-at-eq10.false in
+    found_blank (first_line text) c.loop-at.starts c.loop-at.ends c.loop-at.count c.loop-at.at (omega (arith, here, long)) (ap is_blank (same_byte text c.loop-at.at here) ∙ sym c.is_blank_byte.ensures ∙ c.if-is_blank_byte.true)
+    c.loop-at.invariant
+
+pub word_end-end-requires-clause-within : goal.word_end-end-requires-clause-within
+word_end-end-requires-clause-within c =
+    byte_within c.args.text.now c.loop-at.at (omega (arith, c.loop-at.invariant.within, line_length c.args.text.now)) c.loop-at-test.true c.if-text-at-eq10.false
 
 pub loop-at-preserved : goal.loop-at-preserved
 loop-at-preserved c =
-    let line = c.args.line.now in
+    let line = first_line c.args.text.now in
     subst (λ starts. Found line starts c.keep-else-is_blank_byte.new.places (c.loop-at.count + 1) c.word_end-end.result) (sym c.keep.ensures)
     (subst (λ ends. Found line (slice_set c.loop-at.starts c.loop-at.count c.loop-at.at) ends (c.loop-at.count + 1) c.word_end-end.result) (sym c.keep-else-is_blank_byte.ensures)
     (found_word line c.loop-at.starts c.loop-at.ends c.loop-at.count c.loop-at.at c.word_end-end.result c.word_end-end.ensures c.loop-at.invariant))

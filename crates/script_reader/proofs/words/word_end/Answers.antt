@@ -1,10 +1,24 @@
--- The word goes up to the first blank, or to the end.
-use Rattle.std.proofs.Common.{sym, ◌∙◌}
-use Rattle.script_reader.proofs.Parts.{word_to_blank, word_to_end}
+-- The word goes up to the first byte that ends it, or to the end.
+use Rattle.std.proofs.Common.{sym, ◌∙◌, arith}
+use Rattle.script_reader.proofs.FirstLine.{line_within, first_word}
 use Rattle.script_reader.proofs.words.word_end.Goals as goal
 
-pub returns-in-Some : goal.returns-in-Some
-returns-in-Some c = word_to_blank c.args.line.now c.args.start c.in-Some.len c.requires.within c.requires.begins (sym c.first_blank.ensures ∙ c.in-Some.is)
+pub overflow_add-end : goal.overflow_add-end
+overflow_add-end c = omega (arith, c.requires.within, line_within c.args.text.now)
 
-pub returns-in-None : goal.returns-in-None
-returns-in-None c = word_to_end c.args.line.now c.args.start c.requires.within c.requires.begins (sym c.first_blank.ensures ∙ c.in-None.is)
+pub loop-end-init : goal.loop-end-init
+loop-end-init c = record {
+  forward = omega arith;
+  within = omega (arith, c.requires.within, line_within c.args.text.now);
+  before = λ k h l. absurd (omega (arith, h, l));
+}
+
+pub returns-then-ends_word : goal.returns-then-ends_word
+returns-then-ends_word c =
+    let so_far = c.loop-end.invariant in
+    first_word c.args.text.now c.args.start c.loop-end.end c.requires.within c.requires.begins so_far.forward so_far.within so_far.before (λ h. sym c.ends_word.ensures ∙ c.if-ends_word.true)
+
+pub returns : goal.returns
+returns c =
+    let so_far = c.loop-end.invariant in
+    first_word c.args.text.now c.args.start c.loop-end.end c.requires.within c.requires.begins so_far.forward so_far.within so_far.before (λ h. absurd (omega (arith, h, c.loop-end-test.false)))
