@@ -21,7 +21,7 @@ use Rattle.section_cursor.specs.ValidEvents.{HasValidEvents}
 use Rattle.unit_core.specs.Units.{FabricState}
 use Rattle.unit_core.specs.Fabrics.{state_after_word, reply_to_word}
 use Rattle.unit_core.specs.Histories.{logged_in, HasRecord, IsBoot, IsOfLane}
-use Rattle.unit_core.specs.Reports.{event_line}
+use Rattle.event_words.specs.ReportLines.{event_line}
 use Rattle.script_reader.specs.Scripts.{ScriptOf}
 use Rattle.script_reader.specs.ReportTexts.{fed_lines}
 use Rattle.audit_reader.specs.Beginnings.{IsLegalSoFar, BeginRecords, IsOfSomeLane}

@@ -8,7 +8,7 @@ use Rattle.audit_reader.specs.Digits.{digit_at}
 use Rattle.event_words.specs.declared.record.LoggedEvent.{LoggedEvent}
 use Rattle.event_words.specs.Events.{caller_of}
 use Rattle.event_words.specs.Texts.{event_text, reply_text}
-use Rattle.unit_core.specs.Reports.{event_line}
+use Rattle.event_words.specs.ReportLines.{event_line}
 
 one_digit : (n : ℕ) → n < 10 → decimal n ≡ (48 + n) ∷ []
 unfolding digits

@@ -9,11 +9,11 @@ use Rattle.section_cursor.specs.Cursors.{CursorOf}
 use Rattle.unit_core.specs.Units.{FabricState, fabric_at_reset}
 use Rattle.unit_core.specs.Fabrics.{state_after_word, reply_to_word}
 use Rattle.unit_core.specs.Histories.{logged_in, units_after}
-use Rattle.unit_core.specs.Reports.{event_line}
+use Rattle.event_words.specs.ReportLines.{count_line, event_line}
 use Rattle.script_reader.specs.Scripts.{ScriptOf, need_of}
 use Rattle.script_reader.specs.ReportTexts.{fed_lines}
 use Rattle.audit_reader.specs.Beginnings.{IsLegalSoFar}
-use Rattle.audit_reader.specs.ReportLines.{report_lines, count_line, end_lines, error_lines}
+use Rattle.audit_reader.specs.ReportLines.{report_lines, end_lines, error_lines}
 use Rattle.audit_reader.specs.Audits.{HasGoodLines}
 use Rattle.audit_reader.specs.Following.{IsSeen, IsNext, ListsNone, AreRead, IsFound, entry_after, state_after}
 use Rattle.audit_reader.proofs.OneMore.{seen_begins, logged_more}

@@ -19,7 +19,7 @@ use Rattle.event_words.proofs.Runs.{caller_of_word-word_of}
 use Rattle.script_reader.specs.Scripts.{ScriptOf, most_from, need_of}
 use Rattle.unit_core.specs.Fabrics.{state_after_word, reply_to_word}
 use Rattle.unit_core.specs.Histories.{HaveRecords, IsBoot, IsOfLane, IsLegalHistory, logged_in}
-use Rattle.unit_core.specs.Reports.{event_line}
+use Rattle.event_words.specs.ReportLines.{event_line}
 use Rattle.unit_core.specs.Units.{FabricState, fabric_at_reset}
 use Rattle.audit_reader.proofs.EqualLines.{as_many_lines}
 

@@ -12,10 +12,11 @@ use Rattle.section_cursor.specs.Cursors.{CursorOf}
 use Rattle.unit_core.specs.Units.{UnitState, FabricState}
 use Rattle.unit_core.specs.Fabrics.{error_words}
 use Rattle.unit_core.specs.Histories.{logged_in, units_after, HasRecord, HaveRecords, IsLegalHistory}
-use Rattle.unit_core.specs.Reports.{event_line, section_line, section_lines, unit_line, unit_lines, report_text}
+use Rattle.event_words.specs.ReportLines.{count_line, event_line, section_line}
+use Rattle.unit_core.specs.Reports.{section_lines, unit_line, unit_lines, report_text}
 use Rattle.script_reader.specs.Scripts.{ScriptOf}
 use Rattle.script_reader.specs.ReportTexts.{fed_lines, with_byte}
-use Rattle.audit_reader.specs.ReportLines.{report_lines, count_line, end_lines, error_lines}
+use Rattle.audit_reader.specs.ReportLines.{report_lines, end_lines, error_lines}
 use Rattle.audit_reader.specs.Beginnings.{BeginsRecord, BeginRecords, IsLegalSoFar}
 use Rattle.audit_reader.specs.declared.answer.Audit.{Audit}
 use Rattle.audit_reader.specs.declared.answer.Audit.TheVariants.{Legal, BadAt}

@@ -15,9 +15,7 @@ use Rattle.event_words.specs.declared.record.SectionEnd.{SectionEnd}
 use Rattle.event_words.specs.declared.record.SectionEnd.TheVariants.{Done, Stopped}
 use Rattle.event_words.specs.Events.{caller_of}
 use Rattle.event_words.specs.Texts.{hexadecimal, kind_text, event_text, entry_text, quiet_text, irq_text, denial_text, reply_text}
-use Rattle.unit_core.specs.Reports.{event_line, end_text, section_line}
-use Rattle.audit_reader.specs.ReportLines.{count_line}
-use Rattle.audit_reader.specs.LastLines.{unit_line_of}
+use Rattle.event_words.specs.ReportLines.{count_line, event_line, end_text, section_line, unit_line_of}
 use Rattle.audit_reader.proofs.WholeLines.{IsPlain, given, plain_both, plain_choice, decimal_plain, hexadecimal_plain, IsLine, ends, before}
 
 -- a text before a space and another

@@ -1,36 +1,37 @@
 -- Cursors before the first event.
-use Rattle.std.proofs.Common.{◌≡◌, ℕ, zero, suc, ◌+◌, ◌<◌, ◌≤◌, ◌++◌, List, [], ◌∷◌, length, get_or, sym, subst, arith, inl, refl, drop, take, ◌∙◌, ap}
+use Rattle.std.proofs.Common.{◌≡◌, ℕ, ◌+◌, ◌<◌, ◌≤◌, List, [], ◌∷◌, length, sym, subst, arith, inl, refl, drop, take, ◌∙◌, ap}
 use Rattle.std.specs.Prelude.{IsSome, Any}
 use Rattle.std.specs.List.{AllByRecursion}
-use Rattle.event_words.specs.declared.record.LoggedEvent.{LoggedEvent}
 use Rattle.event_words.specs.Sections.{SectionOf, IsValidSection}
-use Rattle.event_words.specs.Records.{section_end}
-use Rattle.section_cursor.specs.Cursors.{CursorOf, rest_end, HasAllTries}
-use Rattle.section_cursor.specs.ValidEvents.{HasValidEvents}
+use Rattle.section_cursor.specs.Cursors.{CursorOf}
+use Rattle.section_cursor.specs.Fresh.{IsFresh, AreFresh}
 use Rattle.section_cursor.proofs.Following.{section_completes}
 use Rattle.unit_core.specs.Units.{FabricState}
 use Rattle.script_reader.specs.Scripts.{ScriptOf, need_of, IsWellFormedScript}
 use Rattle.script_reader.specs.ReportTexts.{fed_lines}
-use Rattle.audit_reader.specs.ReportLines.{count_line, report_lines}
+use Rattle.event_words.specs.ReportLines.{count_line}
+use Rattle.audit_reader.specs.ReportLines.{report_lines}
 use Rattle.audit_reader.specs.Beginnings.{IsLegalSoFar, BeginRecords, IsOfSomeLane}
 use Rattle.audit_reader.proofs.EqualLines.{first_same}
 use Rattle.audit_reader.specs.Following.{Follows, Follow, AreRead, IsFound, state_after}
 
-pub follows_new : (i : ℕ) (s : SectionOf) (c : CursorOf) → IsValidSection s → ((xs : List LoggedEvent) → rest_end c xs ≡ section_end i s xs) → c.caller ≡ i → HasAllTries c → HasValidEvents c → Follows i s [] c
-follows_new i s c v whole number tries valid =
+follows_new : (i : ℕ) (s : SectionOf) (c : CursorOf) → IsValidSection s → i < 32 → IsFresh i s c → Follows i s [] c
+follows_new i s c v l f =
     let some = section_completes i s v in
-    record { number = number; rest = whole; may_end = (some.0, subst IsSome (sym (whole some.0)) some.1); tries = tries; valid = valid }
+    record { number = f.number; rest = f.whole; may_end = (some.0, subst IsSome (sym (f.whole some.0)) some.1); tries = f.tries v; valid = f.valid l v }
 
-pub follow_more : (cs : List CursorOf) (ss : List SectionOf) (i j : ℕ) (c : CursorOf) (s : SectionOf) → j ≡ i + length cs → Follow [] i cs ss → Follows j s [] c → Follow [] i (cs ++ c ∷ []) (ss ++ s ∷ [])
-follow_more [] [] i j c s h f n = (subst (λ k. Follows k s [] c) (let e : j ≡ i = omega (arith, h) in e) n, tt)
-follow_more (b ∷ cs) (r ∷ ss) i j c s h f n = (f.0, follow_more cs ss (i + 1) j c s (omega (arith, h)) f.1 n)
-follow_more [] (r ∷ ss) i j c s h f n = absurd f
-follow_more (b ∷ cs) [] i j c s h f n = absurd f
+pub follow_fresh : (cs : List CursorOf) (ss : List SectionOf) (i : ℕ) → i + length ss ≤ 32 → AllByRecursion IsValidSection ss → AreFresh i cs ss → Follow [] i cs ss
+follow_fresh [] [] i l v f = tt
+follow_fresh (c ∷ cs) (s ∷ ss) i l v f = (follows_new i s c v.0 (omega (arith, l)) f.0, follow_fresh cs ss (i + 1) (omega (arith, l)) v.1 f.1)
+follow_fresh [] (s ∷ ss) i l v f = absurd f
+follow_fresh (c ∷ cs) [] i l v f = absurd f
 
-pub valid_at : (ss : List SectionOf) (i : ℕ) (d : SectionOf) → i < length ss → AllByRecursion IsValidSection ss → IsValidSection (get_or ss i d)
-valid_at [] i d h v = absurd (omega (arith, h))
-valid_at (s ∷ ss) zero d h v = v.0
-valid_at (s ∷ ss) (suc i) d h v = valid_at ss i d (omega (arith, h)) v.1
+pub script_follows : (script : ScriptOf) (boot : SectionOf) (lanes : List SectionOf) (cs ds : List CursorOf) → IsWellFormedScript script → boot ≡ script.boot → lanes ≡ script.lanes → ds ≡ cs
+    → AreFresh 0 cs (boot ∷ lanes) → Follow [] 0 ds (script.boot ∷ script.lanes)
+script_follows script boot lanes cs ds w b l d f =
+    let few = w.few_lanes in
+    follow_fresh ds (script.boot ∷ script.lanes) 0 (omega (arith, few)) (w.boot, w.lanes)
+    (subst (λ (xs : List CursorOf). AreFresh 0 xs (script.boot ∷ script.lanes)) (sym d) (subst (λ (x : SectionOf). AreFresh 0 cs (x ∷ script.lanes)) b (subst (λ (xs : List SectionOf). AreFresh 0 cs (boot ∷ xs)) l f)))
 
 -- after the first line no event is read
 pub none_read : (script : ScriptOf) (bytes : List ℕ) (count : ℕ) (state : FabricState) (cs : List CursorOf) (left : List ℕ) → count ≤ need_of script → state ≡ state_after script.shapes []

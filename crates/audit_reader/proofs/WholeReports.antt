@@ -9,10 +9,10 @@ use Rattle.section_cursor.specs.Cursors.{CursorOf}
 use Rattle.unit_core.specs.Units.{UnitState, FabricState, fabric_at_reset}
 use Rattle.unit_core.specs.Fabrics.{state_after_word, reply_to_word}
 use Rattle.unit_core.specs.Histories.{logged_in, units_after}
-use Rattle.unit_core.specs.Reports.{event_line, section_line}
+use Rattle.event_words.specs.ReportLines.{count_line, event_line, section_line}
 use Rattle.script_reader.specs.Scripts.{ScriptOf, need_of}
 use Rattle.script_reader.specs.ReportTexts.{fed_lines, with_byte}
-use Rattle.audit_reader.specs.ReportLines.{report_lines, count_line, end_lines, error_lines}
+use Rattle.audit_reader.specs.ReportLines.{report_lines, end_lines, error_lines}
 use Rattle.audit_reader.specs.Audits.{HasGoodLines, IsLegalReport}
 use Rattle.audit_reader.specs.Following.{AreRead, Follow, IsFound}
 use Rattle.audit_reader.specs.LastLines.{HaveCome, IsOther, cursor_lines}

@@ -15,10 +15,10 @@ use Rattle.section_cursor.specs.ValidEvents.{HasValidEvents}
 use Rattle.unit_core.specs.Units.{FabricState, fabric_at_reset}
 use Rattle.unit_core.specs.Fabrics.{state_after_word, reply_to_word}
 use Rattle.unit_core.specs.Histories.{logged_in, BootComesFirst, HasRecord, IsBoot}
-use Rattle.unit_core.specs.Reports.{event_line}
+use Rattle.event_words.specs.ReportLines.{count_line, event_line}
 use Rattle.script_reader.specs.Scripts.{ScriptOf, need_of}
 use Rattle.script_reader.specs.ReportTexts.{fed_lines}
-use Rattle.audit_reader.specs.ReportLines.{count_line, report_lines}
+use Rattle.audit_reader.specs.ReportLines.{report_lines}
 use Rattle.audit_reader.specs.Audits.{IsFirstBadLine, IsLegalReport}
 use Rattle.audit_reader.specs.declared.answer.Audit.{Audit}
 use Rattle.audit_reader.specs.declared.answer.Audit.TheVariants.{Legal, BadAt}

@@ -1,20 +1,13 @@
 -- The lines after those of the events, as they are to come, and where they first don't.
-use Rattle.std.specs.Prelude.{◌≡◌, ℕ, ◌+◌, List, [], ◌∷◌, ◌++◌, Option, None, Some, length, codes, slice_index}
-use Rattle.std.specs.Fmt.{decimal}
-use Rattle.event_words.specs.Texts.{hexadecimal}
+use Rattle.std.specs.Prelude.{◌≡◌, ℕ, ◌+◌, List, [], ◌∷◌, ◌++◌, Option, None, Some, length}
 use Rattle.section_cursor.specs.Cursors.{CursorOf, rest_end}
-use Rattle.unit_core.specs.Reports.{section_line}
+use Rattle.event_words.specs.ReportLines.{section_line}
 use Rattle.script_reader.specs.ReportTexts.{fed_lines}
 
 -- the lines of the sections' ends by their cursors, of which the first has the number i
 abbrev pub cursor_lines : ℕ → List CursorOf → List (List ℕ)
 cursor_lines i [] = []
 cursor_lines i (c ∷ cs) = section_line i (rest_end c []) ∷ cursor_lines (i + 1) cs
-
--- a unit's line from its four error registers
-abbrev pub unit_line_of : ℕ → List ℕ → List ℕ
-unit_line_of u words =
-    codes "unit " ++ (decimal u ++ (codes " " ++ (hexadecimal (slice_index words 0) ++ (codes " " ++ (hexadecimal (slice_index words 1) ++ (codes " " ++ (hexadecimal (slice_index words 2) ++ (codes " " ++ (hexadecimal (slice_index words 3) ++ codes "\n")))))))))
 
 -- Of the lines that are to come, so many came, and what is left of both.
 pub record HaveCome (number : ℕ) (wanted todo lines left : List (List ℕ)) : Type 0 where

@@ -2,20 +2,18 @@
 ghost use Rattle.std.specs.Prelude.{◌≡◌, ◌+◌, ◌<◌, ◌≤◌, ◌∷◌, [], List, ℕ, true, length, IfOk, IfSome, IfNone};
 ghost use Rattle.script_reader.specs.Scripts.{ScriptOf, need_of, IsWellFormedScript};
 ghost use Rattle.script_reader.specs.ReportTexts.{fed_lines};
-ghost use Rattle.audit_reader.specs.ReportLines.{count_line};
+ghost use Rattle.event_words.specs.ReportLines.{count_line};
 ghost use Rattle.audit_reader.specs.Audits.{Audits};
 ghost use Rattle.audit_reader.specs.Following.{IsSeen, EventAnswer, AreRead, EventsAnswer, LinesAnswer};
 
-use crate::beginnings::cursors;
 use crate::endings::{first_bad_end, first_bad_unit, last_is_next};
-use crate::lines::{put_count_line, put_event_line};
 use crate::listing::{caller_in, count_in};
 use crate::turns::awaited;
 use crate::unread::Unread;
 use crate::{Audit, NoMemory};
-use event_words::{Line, LoggedEvent, Machine, pack};
+use event_words::{Line, Listed, LoggedEvent, Machine, pack};
 use script_reader::Script;
-use section_cursor::Cursor;
+use section_cursor::{Cursor, section_cursors};
 use std::alloc::Global;
 use unit_core::Fabric;
 
@@ -24,7 +22,7 @@ use unit_core::Fabric;
 fn event_is_right(
     units: &mut Fabric,
     cursors: &mut [Cursor],
-    line: &mut Line,
+    listed: &mut Listed,
     unread: &mut Unread<'_>,
     place: u32,
 ) -> bool
@@ -41,20 +39,21 @@ fn event_is_right(
     ensures places { units.new.places ≡ units.old.places }
     ensures count { length cursors.new ≡ length cursors.old }
 {
-    let Some(caller) = caller_in(line, unread.bytes(), place) else {
+    let Some(caller) = caller_in(unread.bytes(), place) else {
         return false;
     };
     let Some(event) = awaited(cursors, caller) else {
         return false;
     };
-    let reply = units.apply(place, pack(&event));
+    let word = pack(&event);
+    let reply = units.apply(place, word);
     let logged = LoggedEvent {
         place,
         event,
         reply,
     };
-    put_event_line(line, &logged);
-    if !unread.take(line.bytes()) {
+    listed.set(word, &logged);
+    if !unread.take(listed.bytes()) {
         return false;
     }
     cursors[caller as usize].note(&logged);
@@ -65,7 +64,6 @@ fn event_is_right(
 fn first_bad_event(
     units: &mut Fabric,
     cursors: &mut [Cursor],
-    line: &mut Line,
     unread: &mut Unread<'_>,
     count: u32,
 ) -> Option<u32>
@@ -81,8 +79,9 @@ fn first_bad_event(
     ensures place { IfSome result (λ place. place < count) }
     ensures count { length cursors.new ≡ length cursors.old }
 {
+    let mut listed = Listed::new();
     for place in 0..count {
-        if !event_is_right(units, cursors, line, unread, place) {
+        if !event_is_right(units, cursors, &mut listed, unread, place) {
             return Some(place);
         }
     }
@@ -107,7 +106,7 @@ fn audit_lines(
         → AreRead script bytes count [] units.old.state cursors.old unread.old
         → LinesAnswer result script bytes }
 {
-    if let Some(place) = first_bad_event(units, cursors, line, unread, count) {
+    if let Some(place) = first_bad_event(units, cursors, unread, count) {
         return Audit::BadAt { line: place + 2 };
     }
     if let Some(number) = first_bad_end(unread, line, cursors) {
@@ -156,7 +155,7 @@ fn audit_counted(
     let Ok(mut units) = Fabric::open(alloc, &script.shapes, count) else {
         return Err(NoMemory);
     };
-    let mut cursors = cursors(alloc, &script.boot, &script.lanes)?;
+    let mut cursors = section_cursors(alloc, &script.boot, &script.lanes)?;
     Ok(audit_lines(&mut units, &mut cursors, line, unread, count))
 }
 
@@ -171,7 +170,7 @@ fn first_count(line: &mut Line, unread: &mut Unread<'_>, most: u32) -> Option<u3
     let Some(count) = count_in(unread.bytes(), most) else {
         return None;
     };
-    put_count_line(line, count);
+    line.make_count(count);
     if !unread.take(line.bytes()) {
         return None;
     }

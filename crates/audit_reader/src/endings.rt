@@ -1,11 +1,10 @@
 // The lines after those of the events: how each section ended, and each unit's error registers.
 ghost use Rattle.std.specs.Prelude.{◌≡◌, ◌∷◌, ◌≤◌, ◌<◌, ℕ, List, true, length, codes, IfSome};
-ghost use Rattle.unit_core.specs.Reports.{section_line};
+ghost use Rattle.event_words.specs.ReportLines.{section_line, unit_line_of};
 ghost use Rattle.script_reader.specs.ReportTexts.{fed_lines};
 ghost use Rattle.audit_reader.specs.ReportLines.{error_lines};
-ghost use Rattle.audit_reader.specs.LastLines.{Come, cursor_lines, unit_line_of};
+ghost use Rattle.audit_reader.specs.LastLines.{Come, cursor_lines};
 
-use crate::lines::{put_section_line, put_unit_line};
 use crate::unread::Unread;
 use event_words::{Line, SectionEnd};
 use section_cursor::Cursor;
@@ -26,7 +25,7 @@ fn end_is_next(
     let Some(end) = end else {
         return false;
     };
-    put_section_line(line, number, end);
+    line.make_section(number, end);
     unread.take(line.bytes())
 }
 
@@ -37,7 +36,7 @@ fn errors_are_next(unread: &mut Unread<'_>, line: &mut Line, unit: u8, words: [u
     ensures no { (rest : List (List ℕ)) →
         fed_lines unread.old ≡ unit_line_of unit words ∷ rest → result ≡ true }
 {
-    put_unit_line(line, unit, words);
+    line.make_unit(unit, words);
     unread.take(line.bytes())
 }
 

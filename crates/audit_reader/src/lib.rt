@@ -4,9 +4,7 @@
 
 mod answer;
 mod auditing;
-mod beginnings;
 mod endings;
-mod lines;
 mod listing;
 mod turns;
 mod unread;

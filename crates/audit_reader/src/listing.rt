@@ -3,9 +3,8 @@ ghost use Rattle.std.specs.Prelude.{◌≡◌, ℕ, ◌<◌, ◌≤◌, ◌++◌
 ghost use Rattle.std.specs.Fmt.{decimal};
 ghost use Rattle.event_words.specs.declared.record.LoggedEvent.{LoggedEvent as Logged};
 ghost use Rattle.event_words.specs.Events.{caller_of};
-ghost use Rattle.unit_core.specs.Reports.{event_line};
+ghost use Rattle.event_words.specs.ReportLines.{count_line, event_line};
 ghost use Rattle.audit_reader.specs.Digits.{digit_at};
-ghost use Rattle.audit_reader.specs.ReportLines.{count_line};
 
 use event_words::Line;
 
@@ -37,11 +36,11 @@ fn number_at_front(text: &[u8]) -> Option<u8>
 }
 
 /// Whose event the first of these lines lists, where it begins with this place.
-pub fn caller_in(line: &mut Line, bytes: &[u8], place: u32) -> Option<u8>
+pub fn caller_in(bytes: &[u8], place: u32) -> Option<u8>
     ensures { (x : Logged) (rest : List ℕ) → x.place ≡ place → caller_of x.event < 17 →
         bytes.now ≡ event_line x ++ rest → result ≡ Some (caller_of x.event) }
 {
-    line.clear();
+    let mut line = Line::new();
     line.put(b" ");
     line.put_decimal(place as u64);
     let front = line.bytes().len();

@@ -12,7 +12,8 @@ use Rattle.event_words.specs.Sections.{SectionOf}
 use Rattle.event_words.specs.Word.{word_of}
 use Rattle.unit_core.specs.Fabrics.{state_after_word, reply_to_word}
 use Rattle.unit_core.specs.Histories.{units_after, logged_in}
-use Rattle.unit_core.specs.Reports.{event_line, section_line, section_lines, unit_lines}
+use Rattle.event_words.specs.ReportLines.{event_line, section_line}
+use Rattle.unit_core.specs.Reports.{section_lines, unit_lines}
 use Rattle.unit_core.specs.Units.{UnitState, fabric_at_reset}
 use Rattle.unit_core.proofs.EventTexts.{line_tells}
 use Rattle.event_words.proofs.EventWords.{HasEvent, word_event}

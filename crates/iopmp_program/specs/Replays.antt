@@ -1,8 +1,6 @@
 -- A history replayed.
-use Rattle.std.specs.Prelude.{◌≡◌, ℕ, ◌++◌, List, [], ◌∷◌, codes}
-use Rattle.std.specs.Fmt.{decimal}
+use Rattle.std.specs.Prelude.{◌≡◌, ℕ, List}
 use Rattle.event_words.specs.declared.shape.Shape.{Shape}
-use Rattle.event_words.specs.Texts.{hexadecimal}
 use Rattle.unit_core.specs.Histories.{logged_in, units_after}
 use Rattle.iopmp_program.specs.declared.reports.replay.Replay.{Replay}
 
@@ -10,9 +8,3 @@ use Rattle.iopmp_program.specs.declared.reports.replay.Replay.{Replay}
 pub record IsReplay (replay : Replay) (shapes : List Shape) (words : List ℕ) : Type 0 where
   pub events : replay.events.items ≡ logged_in shapes words
   pub units : replay.units.state.units ≡ units_after shapes words
-
--- a unit's line from its four error registers
-abbrev pub unit_line_of : ℕ → List ℕ → List ℕ
-unit_line_of u (info ∷ addr ∷ addrh ∷ id ∷ []) =
-    codes "unit " ++ (decimal u ++ (codes " " ++ (hexadecimal info ++ (codes " " ++ (hexadecimal addr ++ (codes " " ++ (hexadecimal addrh ++ (codes " " ++ (hexadecimal id ++ codes "\n")))))))))
-unit_line_of u words = []

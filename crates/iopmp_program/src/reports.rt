@@ -1,12 +1,11 @@
 // The report of a history.
-ghost use Rattle.std.specs.Prelude.{◌≡◌, ◌++◌, ◌+◌, ◌*◌, ◌<◌, ◌≤◌, ◌∷◌, [], length, flat_map, slice_get, codes, Some, IfOk, OnOk};
-ghost use Rattle.std.specs.Fmt.{decimal};
+ghost use Rattle.std.specs.Prelude.{◌≡◌, ◌++◌, ◌+◌, ◌*◌, ◌≤◌, ◌∷◌, [], length, flat_map, codes, IfOk, OnOk};
 ghost use Rattle.std.specs.List.{AllByRecursion};
 ghost use Rattle.event_words.specs.Valid.{IsValidShape};
 ghost use Rattle.event_words.specs.Runs.{IsEventWord, logged_from, run_from};
 ghost use Rattle.unit_core.specs.Fabrics.{state_after_word, reply_to_word};
-ghost use Rattle.unit_core.specs.Reports.{event_line, section_lines, unit_lines, report_text};
-ghost use Rattle.iopmp_program.specs.Replays.{unit_line_of};
+ghost use Rattle.event_words.specs.ReportLines.{event_line};
+ghost use Rattle.unit_core.specs.Reports.{section_lines, unit_lines, report_text};
 ghost use Rattle.iopmp_program.specs.SectionEnds.{cursor_ends, end_lines};
 ghost use Rattle.iopmp_program.specs.FaultsCommand.{IsFaultsText};
 
@@ -15,41 +14,18 @@ pub mod replay;
 mod windows;
 
 use crate::memory::NoMemory;
-use cursors::{note, push_ends, section_cursors};
-use event_words::{Line, LoggedEvent, Machine, Section, unpack};
+use cursors::{note, push_ends};
+use event_words::{Line, Listed, Machine, Section};
 use replay::replay_words;
 use script_reader::Script;
-use section_cursor::Cursor;
+use section_cursor::{Cursor, section_cursors};
 use std::alloc::{AllocError, Global};
 use unit_core::Fabric;
 use windows::push_windows;
 
-/// Makes the line of an event.
-fn put_event_line(line: &mut Line, logged: &LoggedEvent)
-    ensures { line.new ≡ event_line logged.now }
-{
-    line.clear();
-    line.put(b"\n");
-    line.put_reply(&logged.reply);
-    line.put(b" = ");
-    line.put_event(&logged.event);
-    line.put(b" ");
-    line.put_decimal(logged.event.caller() as u64);
-    line.put(b" ");
-    line.put_decimal(logged.place as u64);
-}
-
-fn push_event(out: &mut Vec<u8>, line: &mut Line, logged: &LoggedEvent) -> Result<(), AllocError>
-    ensures { OnOk result (out.new.items ≡ out.old.items ++ event_line logged.now) }
-{
-    put_event_line(line, logged);
-    out.extend_from_slice(line.bytes())
-}
-
 /// Applies each word at its place, writes its event's line and notes it.
 fn push_history(
     out: &mut Vec<u8>,
-    line: &mut Line,
     units: &mut Fabric,
     cursors: &mut [Cursor],
     words: &[u64],
@@ -65,19 +41,15 @@ fn push_history(
         (logged_from state_after_word reply_to_word 0 units.old.state words.now)) }
     ensures count { length cursors.new ≡ length cursors.old }
 {
+    let mut listed = Listed::new();
     for (place, word) in words.iter().enumerate() {
         let place = place as u32;
         let reply = units.apply(place, *word);
-        let Some(event) = unpack(*word) else {
+        if !listed.take(place, *word, reply) {
             continue;
-        };
-        let logged = LoggedEvent {
-            place,
-            event,
-            reply,
-        };
-        note(cursors, &logged);
-        push_event(out, line, &logged)?;
+        }
+        note(cursors, listed.logged());
+        out.extend_from_slice(listed.bytes())?;
     }
     Ok(())
 }
@@ -100,7 +72,7 @@ fn push_noted(
     ensures units { OnOk result
         (units.new.state ≡ run_from state_after_word 0 units.old.state words.now) }
 {
-    push_history(out, line, units, cursors, words)?;
+    push_history(out, units, cursors, words)?;
     push_ends(out, line, cursors)?;
     Ok(())
 }
@@ -130,35 +102,12 @@ fn push_events(
     Ok(())
 }
 
-fn push_unit(
-    out: &mut Vec<u8>,
-    line: &mut Line,
-    unit: u8,
-    words: [u32; 4],
-) -> Result<(), AllocError>
-    ensures { OnOk result (out.new.items ≡ out.old.items ++ unit_line_of unit words) }
-{
-    let [info, addr, addrh, id] = words;
-    line.clear();
-    line.put(b"\n");
-    line.put_hexadecimal(id as u64);
-    line.put(b" ");
-    line.put_hexadecimal(addrh as u64);
-    line.put(b" ");
-    line.put_hexadecimal(addr as u64);
-    line.put(b" ");
-    line.put_hexadecimal(info as u64);
-    line.put(b" ");
-    line.put_decimal(unit as u64);
-    line.put(b"unit ");
-    out.extend_from_slice(line.bytes())
-}
-
 fn push_units(out: &mut Vec<u8>, line: &mut Line, units: &Fabric) -> Result<(), AllocError>
     ensures { OnOk result (out.new.items ≡ out.old.items ++ unit_lines 0 units.now.state.units) }
 {
     for unit in 0..units.units() {
-        push_unit(out, line, unit, units.error_words(unit))?;
+        line.make_unit(unit, units.error_words(unit));
+        out.extend_from_slice(line.bytes())?;
     }
     Ok(())
 }
@@ -170,18 +119,6 @@ fn report_room(count: usize) -> usize
     ensures { result ≡ count * 68 + 1024 }
 {
     count * 68 + 1024
-}
-
-/// The first line.
-fn push_count(out: &mut Vec<u8>, line: &mut Line, count: usize) -> Result<(), AllocError>
-    ensures { OnOk result (out.new.items ≡
-        out.old.items ++ (codes "events " ++ (decimal count ++ codes "\n"))) }
-{
-    line.clear();
-    line.put(b"\n");
-    line.put_decimal(count as u64);
-    line.put(b"events ");
-    out.extend_from_slice(line.bytes())
 }
 
 /// The lines of the report but the last, which is `end`.
@@ -197,7 +134,8 @@ fn report_body(alloc: Global, script: &Script, words: &[u64]) -> Result<Vec<u8>,
     let mut line = Line::new();
     let mut units = Fabric::open(alloc, &script.shapes, count as u32)?;
     let mut out = Vec::with_capacity(alloc, report_room(count))?;
-    push_count(&mut out, &mut line, count)?;
+    line.make_count(count as u32);
+    out.extend_from_slice(line.bytes())?;
     push_events(
         &mut out,
         &mut line,

@@ -35,6 +35,16 @@ is_tried_again (Polling mask value left) reply = not (hits mask value reply) && 
 is_tried_again (StageJudging left chain) reply = is_held reply && nat_lt 0 left
 is_tried_again _ reply = false
 
+-- whether this event is the awaited one
+abbrev pub is_due : Ahead → Event → Bool
+is_due (Awaiting event part) e = same_event event e
+is_due _ e = false
+
+-- whether it is awaited again after this reply
+abbrev pub is_due_again : Ahead → Reply → Bool
+is_due_again (Awaiting event part) reply = is_tried_again part reply
+is_due_again _ reply = false
+
 -- whether the next command begins after the last of its tries, whatever the reply
 abbrev pub ends_command : Part → Bool
 ends_command Alone = true

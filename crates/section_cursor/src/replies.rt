@@ -5,6 +5,7 @@ ghost use Rattle.event_words.specs.Records.{is_taken, is_aimed, is_verdict, is_h
 
 use event_words::{Event, Reply, Verdict};
 
+#[inline]
 pub(crate) fn is_taken(reply: &Reply) -> bool
     ensures { result ≡ is_taken reply.now }
 {
@@ -14,6 +15,7 @@ pub(crate) fn is_taken(reply: &Reply) -> bool
     }
 }
 
+#[inline]
 pub(crate) fn is_aimed(reply: &Reply) -> bool
     ensures { result ≡ is_aimed reply.now }
 {
@@ -23,6 +25,7 @@ pub(crate) fn is_aimed(reply: &Reply) -> bool
     }
 }
 
+#[inline]
 pub(crate) fn is_verdict(reply: &Reply) -> bool
     ensures { result ≡ is_verdict reply.now }
 {
@@ -32,6 +35,7 @@ pub(crate) fn is_verdict(reply: &Reply) -> bool
     }
 }
 
+#[inline]
 pub(crate) fn is_held(reply: &Reply) -> bool
     ensures { result ≡ is_held reply.now }
 {
@@ -41,6 +45,7 @@ pub(crate) fn is_held(reply: &Reply) -> bool
     }
 }
 
+#[inline]
 pub(crate) fn hits(mask: u32, value: u32, reply: &Reply) -> bool
     ensures { result ≡ hits mask value reply.now }
 {
@@ -50,6 +55,7 @@ pub(crate) fn hits(mask: u32, value: u32, reply: &Reply) -> bool
     }
 }
 
+#[inline]
 pub(crate) fn next_requester(reply: &Reply) -> Option<u8>
     ensures { result ≡ next_requester reply.now }
 {
@@ -60,6 +66,7 @@ pub(crate) fn next_requester(reply: &Reply) -> Option<u8>
 }
 
 /// Whether two events are one.
+#[inline(always)]
 pub(crate) fn same_event(a: &Event, b: &Event) -> bool
     ensures { result ≡ same_event a.now b.now }
 {

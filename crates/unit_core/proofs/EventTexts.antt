@@ -10,7 +10,7 @@ use Rattle.event_words.specs.declared.record.LoggedEvent.{LoggedEvent}
 use Rattle.event_words.specs.Events.{caller_of}
 use Rattle.event_words.specs.Texts.{hexadecimal, kind_text, event_text, reply_text}
 use Rattle.event_words.specs.Valid.{IsValidHead, IsValidAccess, IsValidEvent}
-use Rattle.unit_core.specs.Reports.{event_line}
+use Rattle.event_words.specs.ReportLines.{event_line}
 use Rattle.event_words.proofs.Numerals.{Tells, both, decimal_tells, hexadecimal_tells, same_first}
 
 -- ---- the fields of an event

@@ -1,6 +1,6 @@
 use Rattle.std.proofs.Common.{◌≡◌, ◌∷◌, sym, ap, ◌∙◌, arith}
 use Rattle.script_reader.specs.ReportTexts.{fed_lines}
-use Rattle.audit_reader.specs.ReportLines.{count_line}
+use Rattle.event_words.specs.ReportLines.{count_line}
 use Rattle.audit_reader.proofs.LegalReports.{not_found, audited}
 use Rattle.audit_reader.proofs.Starting.{first_bad}
 use Rattle.audit_reader.proofs.auditing.audit.Goals as goal

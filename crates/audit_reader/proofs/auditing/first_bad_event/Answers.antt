@@ -1,4 +1,4 @@
-use Rattle.std.proofs.Common.{Bool, subst, rules}
+use Rattle.std.proofs.Common.{Bool, subst, rules, arith}
 use Rattle.audit_reader.specs.Following.{EventAnswer}
 use Rattle.audit_reader.proofs.GoodLines.{lists_none, read_more}
 use Rattle.audit_reader.proofs.auditing.first_bad_event.Goals as goal
@@ -26,3 +26,8 @@ loop-place-preserved c = record {
       r.2 r.1 c.loop-place-test.true
       (subst (λ (b : Bool). EventAnswer b script r.0 old new c.event_is_right.new.units.state c.event_is_right.new.cursors) c.if-not-event_is_right.false answer);
 }
+
+pub returns-clause-answer : goal.returns-clause-answer
+returns-clause-answer c = λ script bytes most begun.
+    let r = c.loop-place.invariant.read script bytes begun in
+    (r.0, omega (arith, r.1, c.loop-place-test.false, c.loop-place.auto.place-end), r.2)

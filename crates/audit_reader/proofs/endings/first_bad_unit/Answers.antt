@@ -1,6 +1,6 @@
 use Rattle.std.proofs.Common.{◌∷◌, ap, sym, ◌∙◌, arith}
 use Rattle.script_reader.specs.ReportTexts.{fed_lines}
-use Rattle.audit_reader.specs.LastLines.{unit_line_of}
+use Rattle.event_words.specs.ReportLines.{unit_line_of}
 use Rattle.audit_reader.proofs.Coming.{come_more, comes_other, units_more}
 use Rattle.audit_reader.proofs.endings.first_bad_unit.Goals as goal
 

@@ -2,7 +2,7 @@
 use Rattle.std.proofs.Common.{◌≡◌, ◌++◌, length, drop, flat_map}
 use Rattle.event_words.specs.Runs.{logged_from, run_from}
 use Rattle.unit_core.specs.Fabrics.{state_after_word, reply_to_word}
-use Rattle.unit_core.specs.Reports.{event_line}
+use Rattle.event_words.specs.ReportLines.{event_line}
 use Rattle.iopmp_program.specs.SectionEnds.{cursor_ends}
 use Rattle.iopmp_program.proofs.reports.push_history.Given as goal
 
