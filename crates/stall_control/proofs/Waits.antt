@@ -1,7 +1,7 @@
 -- How many requesters are stalled with something in flight, as one of them changes.
 use Rattle.std.proofs.Common.{◌≡◌, ◌≢◌, ℕ, suc, zero, ◌+◌, ◌<◌, ◌≤◌, Bool, true, false, not, ◌&&◌, ◌||◌, ◌==◌, ltb, ◌/◌, ◌%◌, ◌^◌, replicate, List, [], ◌∷◌, length, ◌++◌, count_by, set, take, arith, refl, sym, ap, ◌∙◌, subst, inl, inr, get_or-set_other, length-set}
 use Rattle.std.specs.List.{range_with_len, list_any}
-use Rattle.std.proofs.lemmas.List.{take-replicate}
+use Rattle.std.proofs.lemmas.List.{take-replicate, length-take-le}
 use Rattle.std.proofs.lemmas.List.Sums.{sum_by-cons}
 use Rattle.std.proofs.lemmas.Bool.Decides.{eqb_tells, nat_tests}
 use Rattle.event_words.specs.Stalls.{flag_of, flags_after_rridscp}
@@ -160,13 +160,42 @@ taken n (x ∷ xs) ys e =
     let z : suc (length xs) ≡ n = omega arith in
     subst (λ k. take k (x ∷ (xs ++ ys)) ≡ x ∷ xs) z (ap (λ l. x ∷ l) (taken (length xs) xs ys refl))
 
-pub count_facts : (F : List Bool) (C C' new : List ℕ) (r k w : ℕ) (was now : Bool) → length F ≡ length C → w ≡ busy_count F C → was ≡ is_busy_at F C r → now ≡ is_busy_at F C' r → C' ≡ new → new ≡ set C r k
-    → w + one now ≡ busy_count F C' + one was
-count_facts F C C' new r k w was now l e1 e2 e3 e4 e5 = rw (e1, e2, e3) (count_put F C C' r k l (e4 ∙ e5))
+-- One requester may have changed, between a test `was` and a test `now`: what holds of the number `w` before, where
+-- `of` tells the number from the first `n` items of a list that begins with `new`.
+pub record IsOneChanged {X : Type 0} (n w : ℕ) (was now : Bool) (new : List X) (of : List X → ℕ) : Type 0 where
+  pub few : w ≤ 64
+  pub some : one was ≤ w + one now
+  pub counted : (rest : List X) (v : ℕ) → v + one was ≡ w + one now → v ≡ of (take n (new ++ rest))
 
-pub flag_facts : (F F' new : List Bool) (C : List ℕ) (value r w : ℕ) (was now : Bool) → w ≡ busy_count F C → was ≡ is_busy_at F C r → now ≡ is_busy_at F' C r → F' ≡ new → new ≡ flags_after_rridscp F value → r ≡ value % 2 ^ 16
-    → w + one now ≡ busy_count F' C + one was
-flag_facts F F' new C value r w was now e1 e2 e3 e4 e5 e6 = rw (e1, e2, e3) (flags_put F F' C value r e6 (e4 ∙ e5))
+one_changed : {X : Type 0} (n w : ℕ) (was now : Bool) (new rest : List X) (of : List X → ℕ) → n ≡ length new → w ≤ 64 → w + one now ≡ of (take n (new ++ rest)) + one was → IsOneChanged n w was now new of
+one_changed n w was now new rest of l few e =
+    let a : of (take n (new ++ rest)) ≡ of new = ap of (taken n new rest l) in
+    record {
+      few = few;
+      some = omega arith;
+      counted = λ rest' v f. let b : of (take n (new ++ rest')) ≡ of new = ap of (taken n new rest' l) in omega arith;
+    }
+
+few_busy : (n w : ℕ) (flags : List Bool) (counts : List ℕ) → n ≤ 64 → length flags ≡ 64 → w ≡ busy_count (take n flags) counts → w ≤ 64
+few_busy n w flags counts h l e =
+    let a = length-take-le n flags (omega arith) in
+    let b = busy_small (take n flags) counts in omega arith
+
+pub count_facts : (n r k w : ℕ) (flags : List Bool) (counts new rest : List ℕ) (was now : Bool) → n ≤ 64 → length flags ≡ 64 → length counts ≡ 64 → n ≡ length new
+    → w ≡ busy_count (take n flags) (take n counts) → was ≡ is_busy_at (take n flags) (take n counts) r → now ≡ is_busy_at (take n flags) (take n (new ++ rest)) r → new ≡ set (take n counts) r k
+    → IsOneChanged n w was now new (busy_count (take n flags))
+count_facts n r k w flags counts new rest was now h fl cl nl e1 e2 e3 e4 =
+    let a = length-take-le n flags (omega arith) in
+    let b = length-take-le n counts (omega arith) in
+    one_changed n w was now new rest (busy_count (take n flags)) nl (few_busy n w flags (take n counts) h fl e1)
+    (rw (e1, e2, e3) (count_put (take n flags) (take n counts) (take n (new ++ rest)) r k (omega arith) (taken n new rest nl ∙ e4)))
+
+pub flag_facts : (n value w : ℕ) (flags new rest : List Bool) (counts : List ℕ) (was now : Bool) → n ≤ 64 → length flags ≡ 64 → n ≡ length new
+    → w ≡ busy_count (take n flags) counts → was ≡ is_busy_at (take n flags) counts (value % 2 ^ 16) → now ≡ is_busy_at (take n (new ++ rest)) counts (value % 2 ^ 16) → new ≡ flags_after_rridscp (take n flags) value
+    → IsOneChanged n w was now new (λ f. busy_count f counts)
+flag_facts n value w flags new rest counts was now h fl nl e1 e2 e3 e4 =
+    one_changed n w was now new rest (λ f. busy_count f counts) nl (few_busy n w flags counts h fl e1)
+    (rw (e1, e2, e3) (flags_put (take n flags) (take n (new ++ rest)) counts value (value % 2 ^ 16) refl (taken n new rest nl ∙ e4)))
 
 pub start : (n : ℕ) → n ≤ 64 → 0 ≡ busy_count (take n (replicate 64 false)) (take n (replicate 64 0))
 start n h = rw (take-replicate n 64 false h, take-replicate {X = ℕ} n 64 0 h) (sym (none_busy n n 0 (length (replicate n false))))
