@@ -1,21 +1,19 @@
 -- A line that lists the awaited event, and one that lists none that may come.
-use Rattle.std.proofs.Common.{◌≡◌, ℕ, zero, suc, ◌<◌, ◌≤◌, ◌++◌, Bool, true, false, List, [], ◌∷◌, Option, Some, None, length, get_or, set, refl, sym, ap, subst, ◌∙◌, arith, append_assoc, inl, inr, zero-add, eq-eqb, ◌&&◌}
-use Rattle.std.specs.Prelude.{IsSome, Any, ◌==◌}
+use Rattle.std.proofs.Common.{◌≡◌, ℕ, zero, suc, ◌<◌, ◌≤◌, ◌++◌, List, [], ◌∷◌, Option, Some, None, length, get_or, set, refl, sym, ap, subst, ◌∙◌, arith, append_assoc, inl, inr, zero-add}
+use Rattle.std.specs.Prelude.{IsSome, Any}
 use Rattle.std.specs.List.{concat}
-use Rattle.std.proofs.lemmas.Bool.{eqb-true}
-use Rattle.event_words.specs.declared.access.Access.{Access}
-use Rattle.event_words.specs.declared.access.Kind.{Kind}
 use Rattle.event_words.specs.declared.access.Kind.TheVariants as kinds
 use Rattle.event_words.specs.declared.event.Event.{Event}
 use Rattle.event_words.specs.declared.record.LoggedEvent.{LoggedEvent}
 use Rattle.event_words.specs.declared.reply.Reply.{Reply}
-use Rattle.event_words.specs.Events.{caller_of, same_event, same_access}
+use Rattle.event_words.specs.Events.{caller_of}
 use Rattle.event_words.specs.Valid.{IsValidEvent}
-use Rattle.event_words.specs.Word.{word_of, kind_code}
+use Rattle.event_words.specs.Word.{word_of}
 use Rattle.event_words.specs.declared.event.Event.TheVariants as events
 use Rattle.event_words.specs.Runs.{caller_of_word, IsEventWord}
 use Rattle.event_words.specs.Records.{section_end}
 use Rattle.event_words.proofs.Runs.{caller_of_word-word_of, word_of-is_word}
+use Rattle.event_words.proofs.SameEvents.{same_event_is, same_event_self}
 use Rattle.section_cursor.specs.Cursors.{CursorOf, rest_end, HasAllTries, Allows}
 use Rattle.section_cursor.specs.ValidEvents.{HasValidEvents}
 use Rattle.unit_core.specs.Units.{FabricState}
@@ -29,79 +27,6 @@ use Rattle.audit_reader.specs.Following.{Follow, AreInOrder, IsSeen, IsNext, Lis
 use Rattle.audit_reader.proofs.NextEvents.{get_or_same}
 use Rattle.audit_reader.proofs.WholeLines.{begins_with}
 use Rattle.audit_reader.proofs.OneMore.{logged_on, logged_more, state_more, later, IsAfter, noted, allowed, as_many, follows_at, boot_over, all_more, lanes_from, boot_same, is_of_some, boot_first}
-
-both : (a b : Bool) → a ≡ true → b ≡ true → (a && b) ≡ true
-both true b p q = q
-both false b p q = p
-
-self : (n : ℕ) → (n == n) ≡ true
-self n = eq-eqb n n refl
-
-same_event_self : (e : Event) → same_event e e ≡ true
-same_event_self (events.RegWrite u c i v) = both _ _ (self u) (both _ _ (self c) (both _ _ (self i) (self v)))
-same_event_self (events.RegRead u c i) = both _ _ (self u) (both _ _ (self c) (self i))
-same_event_self (events.Submit u c a) = both _ _ (self u) (both _ _ (self c) (both _ _ (self a.rrid) (both _ _ (self (kind_code a.kind)) (both _ _ (self a.addr) (self a.len)))))
-same_event_self (events.Judge u c p) = both _ _ (self u) (both _ _ (self c) (self p))
-same_event_self (events.Aim c a) = both _ _ (self c) (self a)
-same_event_self (events.Wide u c s k n) = both _ _ (self u) (both _ _ (self c) (both _ _ (self s) (both _ _ (self (kind_code k)) (self n))))
-
-and_both : (a b : Bool) → (a && b) ≡ true → (a ≡ true) × (b ≡ true)
-and_both true b h = (refl, h)
-and_both false b h = absurd (let n : false ≡ true = h in cc)
-
-number : (m n : ℕ) → (m == n) ≡ true → m ≡ n
-number m n h = eqb-true m n h
-
-same_kind : (a b : Kind) → (kind_code a == kind_code b) ≡ true → a ≡ b
-same_kind kinds.Read kinds.Read h = refl
-same_kind kinds.Write kinds.Write h = refl
-same_kind kinds.Fetch kinds.Fetch h = refl
-same_kind kinds.Read kinds.Write h = absurd (let n : false ≡ true = h in cc)
-same_kind kinds.Read kinds.Fetch h = absurd (let n : false ≡ true = h in cc)
-same_kind kinds.Write kinds.Read h = absurd (let n : false ≡ true = h in cc)
-same_kind kinds.Write kinds.Fetch h = absurd (let n : false ≡ true = h in cc)
-same_kind kinds.Fetch kinds.Read h = absurd (let n : false ≡ true = h in cc)
-same_kind kinds.Fetch kinds.Write h = absurd (let n : false ≡ true = h in cc)
-
-accesses_same : (a b : Access) → same_access a b ≡ true → a ≡ b
-accesses_same a b h =
-    let one = and_both (a.rrid == b.rrid) _ h in
-    let two = and_both (kind_code a.kind == kind_code b.kind) _ one.1 in
-    let three = and_both (a.addr == b.addr) _ two.1 in
-    ap (λ n. record { rrid = n; kind = a.kind; addr = a.addr; len = a.len }) (number _ _ one.0)
-    ∙ ap (λ n. record { rrid = b.rrid; kind = n; addr = a.addr; len = a.len }) (same_kind a.kind b.kind two.0)
-    ∙ ap (λ n. record { rrid = b.rrid; kind = b.kind; addr = n; len = a.len }) (number _ _ three.0)
-    ∙ ap (λ n. record { rrid = b.rrid; kind = b.kind; addr = b.addr; len = n }) (number _ _ three.1)
-
-events_same : (a b : Event) → same_event a b ≡ true → a ≡ b
-events_same (events.RegWrite u c i v) (events.RegWrite u' c' i' v') h =
-    let one = and_both (u == u') _ h in
-    let two = and_both (c == c') _ one.1 in
-    let three = and_both (i == i') _ two.1 in
-    ap (λ n. events.RegWrite n c i v) (number u u' one.0) ∙ ap (λ n. events.RegWrite u' n i v) (number c c' two.0) ∙ ap (λ n. events.RegWrite u' c' n v) (number i i' three.0) ∙ ap (events.RegWrite u' c' i') (number v v' three.1)
-events_same (events.RegRead u c i) (events.RegRead u' c' i') h =
-    let one = and_both (u == u') _ h in
-    let two = and_both (c == c') _ one.1 in
-    ap (λ n. events.RegRead n c i) (number u u' one.0) ∙ ap (λ n. events.RegRead u' n i) (number c c' two.0) ∙ ap (events.RegRead u' c') (number i i' two.1)
-events_same (events.Submit u c a) (events.Submit u' c' a') h =
-    let one = and_both (u == u') _ h in
-    let two = and_both (c == c') _ one.1 in
-    ap (λ n. events.Submit n c a) (number u u' one.0) ∙ ap (λ n. events.Submit u' n a) (number c c' two.0) ∙ ap (events.Submit u' c') (accesses_same a a' two.1)
-events_same (events.Judge u c p) (events.Judge u' c' p') h =
-    let one = and_both (u == u') _ h in
-    let two = and_both (c == c') _ one.1 in
-    ap (λ n. events.Judge n c p) (number u u' one.0) ∙ ap (λ n. events.Judge u' n p) (number c c' two.0) ∙ ap (events.Judge u' c') (number p p' two.1)
-events_same (events.Aim c a) (events.Aim c' a') h =
-    let one = and_both (c == c') _ h in
-    ap (λ n. events.Aim n a) (number c c' one.0) ∙ ap (events.Aim c') (number a a' one.1)
-events_same (events.Wide u c s k n) (events.Wide u' c' s' k' n') h =
-    let one = and_both (u == u') _ h in
-    let two = and_both (c == c') _ one.1 in
-    let three = and_both (s == s') _ two.1 in
-    let four = and_both (kind_code k == kind_code k') _ three.1 in
-    ap (λ m. events.Wide m c s k n) (number u u' one.0) ∙ ap (λ m. events.Wide u' m s k n) (number c c' two.0) ∙ ap (λ m. events.Wide u' c' m k n) (number s s' three.0)
-    ∙ ap (λ m. events.Wide u' c' s' m n) (same_kind k k' four.0) ∙ ap (events.Wide u' c' s' k') (number n n' four.1)
-events_same _ _ h = absurd (let n : false ≡ true = h in cc)
 
 -- ---- the order, one event more
 
@@ -267,7 +192,7 @@ other_awaited script words left state cs place caller event reply few s k found 
     let c = a.cursor in
     let cursor_is : c ≡ get_or cs (caller_of e) c = a.at.1 ∙ ap (λ n. get_or cs n c) is in
     let same = a.only (entry_after script.shapes words e) (subst (λ (b : CursorOf). Allows b (entry_after script.shapes words e)) (sym cursor_is) (m.allows c)) in
-    let events : event ≡ e = events_same event e same in
+    let events : event ≡ e = sym (same_event_is event e same) in
     other rest (l ∙ ap (λ y. event_line y ∷ rest) (sym (it events)))
   where
     it : event ≡ e → record { place = place; event = event; reply = reply } ≡ entry_after script.shapes words e

@@ -97,10 +97,7 @@ IsClosedKind kind = (stage place : ℕ) → kind (Open stage place) ≡ false
 undecided_kind : (kind : ChainReply → Bool) → IsClosedKind kind → (o : Option ChainReply) → is_undecided o ≡ true → is_some_of kind o ≡ false
 undecided_kind kind k None h = refl
 undecided_kind kind k (Some (Open s p)) h = k s p
-undecided_kind kind k (Some (Allowed n)) h = absurd (let n : false ≡ true = h in cc)
-undecided_kind kind k (Some (Denied s d)) h = absurd (let n : false ≡ true = h in cc)
-undecided_kind kind k (Some (Busy s)) h = absurd (let n : false ≡ true = h in cc)
-undecided_kind kind k (Some (Odd s r)) h = absurd (let n : false ≡ true = h in cc)
+undecided_kind kind k _ h = absurd (let n : false ≡ true = h in cc)
 
 pub none_waiting : (kind : ChainReply → Bool) → IsClosedKind kind → (xs : List LoggedEvent) → list_all waits xs ≡ true → list_any (decides kind) xs ≡ false
 none_waiting kind k [] h = refl

@@ -7,9 +7,10 @@ use Rattle.event_words.specs.declared.event.Event.TheVariants as events
 use Rattle.event_words.specs.declared.reply.Reply.{Reply}
 use Rattle.event_words.specs.declared.record.LoggedEvent.{LoggedEvent}
 use Rattle.event_words.specs.Records.{is_taken, judgements, next_requester, stage_following, stage_judged, through_stages}
+use Rattle.event_words.proofs.Cases.{by_test}
 use Rattle.cascade_path.specs.Stages.{IsSubmission, IsRefusedAim}
 use Rattle.cascade_path.proofs.Submitting.{Events, Go, StageRefused, StageSubmitted, stage_begins}
-use Rattle.cascade_path.proofs.Turns.{by_bool, AreJudgements, BeginsWithJudgements, begins_with_judgements}
+use Rattle.cascade_path.proofs.Turns.{AreJudgements, BeginsWithJudgements, begins_with_judgements}
 
 -- The last event is an aim, which was refused.
 pub record EndsUnaimed (caller : ℕ) (access : Access) (made earlier : Events) : Type 0 where
@@ -134,6 +135,6 @@ last_stage_of n max a (u ∷ us) rrid made some h =
     submitted again s =
         let go : Go = through_stages n max a us in
         let j : Option (Reply × Events) = judgements max (events.Judge u n s.last.place) s.rest in
-        by_bool (is_taken s.last.reply)
+        by_test (is_taken s.last.reply) _
         (λ taken. judged again s taken j refl (subst (λ (t : Bool). cond t (stage_judged go j) (Some s.rest) ≡ Some []) taken s.piece))
         (λ refused. let left : Some s.rest ≡ Some [] = subst (λ (t : Bool). cond t (stage_judged go j) (Some s.rest) ≡ Some []) refused s.piece in refused_here s refused (cc))

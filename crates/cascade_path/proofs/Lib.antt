@@ -1,7 +1,6 @@
 pub mod Making
 pub mod Repeats
 pub mod Turns
-pub mod SameEvents
 pub mod Judging
 pub mod Causes
 pub mod Submitting

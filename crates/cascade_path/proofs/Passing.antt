@@ -13,7 +13,7 @@ use Rattle.event_words.specs.Records.{one_stage, stage_following, through_stages
 use Rattle.event_words.specs.Sections.{submission_events}
 use Rattle.shared_log.specs.Callers.{CallerView}
 use Rattle.cascade_path.specs.declared.chain.ChainReply.{ChainReply}
-use Rattle.cascade_path.specs.declared.chain.ChainReply.TheVariants.{Allowed, Denied, Busy, Open, Odd}
+use Rattle.cascade_path.specs.declared.chain.ChainReply.TheVariants.{Allowed}
 use Rattle.cascade_path.specs.Making.{MakesEvents}
 use Rattle.cascade_path.specs.Answers.{event_answer, is_beginning, last_stage, chain_reply, is_allowed, is_denied, is_busy, is_open, is_odd, is_some_of, decides}
 use Rattle.cascade_path.specs.Chains.{SendsThrough}
@@ -40,17 +40,11 @@ allowed_kind = record { denied = λ s t d. refl; busy = λ s t. refl; still_open
 
 pub not_allowed : (a : ChainReply) → ((next : ℕ) → a ≡ Allowed next → ⊥) → is_allowed a ≡ false
 not_allowed (Allowed next) h = absurd (h next refl)
-not_allowed (Denied s d) h = refl
-not_allowed (Busy s) h = refl
-not_allowed (Open s p) h = refl
-not_allowed (Odd s r) h = refl
+not_allowed _ h = refl
 
 pub no_next : (a : ChainReply) → ((next : ℕ) → a ≡ Allowed next → ⊥) → allowed_next a ≡ None
 no_next (Allowed next) h = absurd (h next refl)
-no_next (Denied s d) h = refl
-no_next (Busy s) h = refl
-no_next (Open s p) h = refl
-no_next (Odd s r) h = refl
+no_next _ h = refl
 
 -- ---- events of a stage after those of the stages before it
 

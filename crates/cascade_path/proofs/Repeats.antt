@@ -1,33 +1,17 @@
 -- Repeated judgements: what one more event does to the record.
-use Rattle.std.proofs.Common.{◌≡◌, ℕ, zero, suc, ◌≤◌, Bool, true, false, cond, List, ◌∷◌, Option, Some, None, eqb, ap, ◌∙◌, refl, eq-eqb, arith}
+use Rattle.std.proofs.Common.{◌≡◌, ℕ, zero, suc, ◌≤◌, Bool, true, false, cond, List, ◌∷◌, Option, Some, None, ap, ◌∙◌, refl, arith}
 use Rattle.std.specs.Prelude.{◌&&◌, not, nat_lt}
-use Rattle.std.proofs.lemmas.Bool.{and_from, lt-ltb}
+use Rattle.std.proofs.lemmas.Bool.{lt-ltb}
 use Rattle.event_words.specs.declared.event.Event.{Event}
-use Rattle.event_words.specs.declared.event.Event.TheVariants as events
 use Rattle.event_words.specs.declared.reply.Reply.{Reply}
 use Rattle.event_words.specs.declared.reply.Reply.TheVariants as replies
 use Rattle.event_words.specs.declared.record.LoggedEvent.{LoggedEvent}
-use Rattle.event_words.specs.Word.{kind_code}
 use Rattle.event_words.specs.Events.{same_event}
 use Rattle.event_words.specs.Records.{take_event, judgements, is_held}
-
-eqb-refl : (n : ℕ) → eqb n n ≡ true
-eqb-refl n = eq-eqb n n refl
-
-both : (x y : Bool) → x ≡ true → y ≡ true → (x && y) ≡ true
-both x y p q = and_from x y p q
-
--- an event is the same as itself
-pub same_event-refl : (e : Event) → same_event e e ≡ true
-same_event-refl (events.RegWrite u c i v) = both _ _ (eqb-refl u) (both _ _ (eqb-refl c) (both _ _ (eqb-refl i) (eqb-refl v)))
-same_event-refl (events.RegRead u c i) = both _ _ (eqb-refl u) (both _ _ (eqb-refl c) (eqb-refl i))
-same_event-refl (events.Submit u c a) = both _ _ (eqb-refl u) (both _ _ (eqb-refl c) (both _ _ (eqb-refl a.rrid) (both _ _ (eqb-refl (kind_code a.kind)) (both _ _ (eqb-refl a.addr) (eqb-refl a.len)))))
-same_event-refl (events.Judge u c p) = both _ _ (eqb-refl u) (both _ _ (eqb-refl c) (eqb-refl p))
-same_event-refl (events.Aim c a) = both _ _ (eqb-refl c) (eqb-refl a)
-same_event-refl (events.Wide u c r k n) = both _ _ (eqb-refl u) (both _ _ (eqb-refl c) (both _ _ (eqb-refl r) (both _ _ (eqb-refl (kind_code k)) (eqb-refl n))))
+use Rattle.event_words.proofs.SameEvents.{same_event_self}
 
 pub take_event-cons : (e : Event) (x : LoggedEvent) (xs : List LoggedEvent) → x.event ≡ e → take_event e (x ∷ xs) ≡ Some (x, xs)
-take_event-cons e x xs is = ap (λ (t : Bool). cond t (Some (x, xs)) None) (ap (same_event e) is ∙ same_event-refl e)
+take_event-cons e x xs is = ap (λ (t : Bool). cond t (Some (x, xs)) None) (ap (same_event e) is ∙ same_event_self e)
 
 -- What up to n judgements more give, after judgements that all replied Held.
 abbrev pub judgements_left : ℕ → Event → List LoggedEvent → Option (Reply × List LoggedEvent)
@@ -44,13 +28,13 @@ held_by (suc n) e x xs h = ap (λ (t : Bool). cond t (judgements (suc n) e xs) (
 -- one more that replied Held
 pub judgements-held : (n : ℕ) (e : Event) (x : LoggedEvent) (xs : List LoggedEvent) → x.event ≡ e → x.reply ≡ replies.Held → judgements_left (suc n) e (x ∷ xs) ≡ judgements_left n e xs
 judgements-held n e x xs is h =
-    ap (λ (s : Bool). judged_on s (is_held x.reply) n e x xs) (ap (same_event e) is ∙ same_event-refl e)
+    ap (λ (s : Bool). judged_on s (is_held x.reply) n e x xs) (ap (same_event e) is ∙ same_event_self e)
     ∙ ap (λ (r : Reply). judged_on true (is_held r) n e x xs) h ∙ held_by n e x xs h
 
 -- the last, which didn't reply Held
 pub judgements-last : (n : ℕ) (e : Event) (x : LoggedEvent) (xs : List LoggedEvent) → x.event ≡ e → is_held x.reply ≡ false → judgements_left (suc n) e (x ∷ xs) ≡ Some (x.reply, xs)
 judgements-last n e x xs is h =
-    ap (λ (s : Bool). judged_on s (is_held x.reply) n e x xs) (ap (same_event e) is ∙ same_event-refl e)
+    ap (λ (s : Bool). judged_on s (is_held x.reply) n e x xs) (ap (same_event e) is ∙ same_event_self e)
     ∙ ap (λ (t : Bool). judged_on true t n e x xs) h
 
 pub some_judgements : (max : ℕ) (e : Event) (xs : List LoggedEvent) → 1 ≤ max → judgements max e xs ≡ judgements_left max e xs

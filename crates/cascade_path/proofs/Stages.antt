@@ -28,57 +28,27 @@ use Rattle.cascade_path.proofs.Causes.{count-append}
 taken_waits : (r : Reply) → is_taken r ≡ true → is_undecided (submission_answer 0 r) ≡ true
 taken_waits replies.Passed h = refl
 taken_waits replies.Queued h = refl
-taken_waits replies.Busy h = absurd (let n : false ≡ true = h in cc)
-taken_waits (replies.Stalled d) h = absurd (let n : false ≡ true = h in cc)
-taken_waits (replies.Value v) h = absurd (let n : false ≡ true = h in cc)
-taken_waits (replies.Verdict v) h = absurd (let n : false ≡ true = h in cc)
-taken_waits replies.Held h = absurd (let n : false ≡ true = h in cc)
-taken_waits replies.NoSuch h = absurd (let n : false ≡ true = h in cc)
-taken_waits replies.Aimed h = absurd (let n : false ≡ true = h in cc)
+taken_waits _ h = absurd (let n : false ≡ true = h in cc)
 
 pub refused_reply : (r : Reply) → (r ≡ replies.Passed → ⊥) → (r ≡ replies.Queued → ⊥) → is_taken r ≡ false
 refused_reply replies.Passed p q = absurd (p refl)
 refused_reply replies.Queued p q = absurd (q refl)
-refused_reply replies.Busy p q = refl
-refused_reply (replies.Stalled d) p q = refl
-refused_reply (replies.Value v) p q = refl
-refused_reply (replies.Verdict v) p q = refl
-refused_reply replies.Held p q = refl
-refused_reply replies.NoSuch p q = refl
-refused_reply replies.Aimed p q = refl
+refused_reply _ p q = refl
 
 pub aim_refused : (r : Reply) → (r ≡ replies.Aimed → ⊥) → is_aimed r ≡ false
 aim_refused replies.Aimed h = absurd (h refl)
-aim_refused replies.Passed h = refl
-aim_refused replies.Queued h = refl
-aim_refused replies.Busy h = refl
-aim_refused (replies.Stalled d) h = refl
-aim_refused (replies.Value v) h = refl
-aim_refused (replies.Verdict v) h = refl
-aim_refused replies.Held h = refl
-aim_refused replies.NoSuch h = refl
+aim_refused _ h = refl
 
 odd_aim : (stage : ℕ) (r : Reply) → is_aimed r ≡ false → aim_answer stage r ≡ Some (Odd stage r)
 odd_aim stage replies.Aimed h = absurd (let n : true ≡ false = h in cc)
-odd_aim stage replies.Passed h = refl
-odd_aim stage replies.Queued h = refl
-odd_aim stage replies.Busy h = refl
-odd_aim stage (replies.Stalled d) h = refl
-odd_aim stage (replies.Value v) h = refl
-odd_aim stage (replies.Verdict v) h = refl
-odd_aim stage replies.Held h = refl
-odd_aim stage replies.NoSuch h = refl
+odd_aim stage _ h = refl
 
 pub odd_answer : (stage : ℕ) (r : Reply) → (r ≡ replies.Passed → ⊥) → (r ≡ replies.Queued → ⊥) → (r ≡ replies.Busy → ⊥) → ((d : Denial) → r ≡ replies.Stalled d → ⊥) → submission_answer stage r ≡ Some (Odd stage r)
 odd_answer stage replies.Passed p q b s = absurd (p refl)
 odd_answer stage replies.Queued p q b s = absurd (q refl)
 odd_answer stage replies.Busy p q b s = absurd (b refl)
 odd_answer stage (replies.Stalled d) p q b s = absurd (s d refl)
-odd_answer stage (replies.Value v) p q b s = refl
-odd_answer stage (replies.Verdict v) p q b s = refl
-odd_answer stage replies.Held p q b s = refl
-odd_answer stage replies.NoSuch p q b s = refl
-odd_answer stage replies.Aimed p q b s = refl
+odd_answer stage _ p q b s = refl
 
 allowed_by : (stage next : ℕ) (b : Bool) → allowed_next (cond b (Allowed next) (Odd stage (replies.Verdict (verdicts.Allowed next)))) ≡ cond b (Some next) None
 allowed_by stage next true = refl
@@ -87,15 +57,7 @@ allowed_by stage next false = refl
 -- the next stage bears what the verdict allows
 next_is : (stage place : ℕ) (r : Reply) → allowed_next (judgement_answer stage place r) ≡ next_requester r
 next_is stage place (replies.Verdict (verdicts.Allowed next)) = allowed_by stage next (nat_le next 63)
-next_is stage place (replies.Verdict (verdicts.Denied d)) = refl
-next_is stage place replies.Held = refl
-next_is stage place replies.Passed = refl
-next_is stage place replies.Queued = refl
-next_is stage place replies.Busy = refl
-next_is stage place (replies.Stalled d) = refl
-next_is stage place (replies.Value v) = refl
-next_is stage place replies.NoSuch = refl
-next_is stage place replies.Aimed = refl
+next_is stage place _ = refl
 
 -- ---- held judgements
 

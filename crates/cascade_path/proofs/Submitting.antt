@@ -13,12 +13,12 @@ use Rattle.event_words.specs.Events.{same_event}
 use Rattle.event_words.specs.Records.{take_event, is_aimed, one_stage, stage_piece, aimed_piece, wide_event}
 use Rattle.event_words.specs.Sections.{submission_events}
 use Rattle.event_words.specs.Valid.{is_narrow}
+use Rattle.event_words.proofs.SameEvents.{same_event_is}
+use Rattle.event_words.proofs.Cases.{by_test}
 use Rattle.cascade_path.specs.Answers.{begins, is_beginning, submission_answer, answer_to, event_answer}
 use Rattle.cascade_path.specs.Stages.{IsSubmission, IsRefusedAim, is_undecided, waits}
 use Rattle.cascade_path.proofs.Causes.{count-append}
 use Rattle.cascade_path.proofs.Repeats.{take_event-cons}
-use Rattle.cascade_path.proofs.SameEvents.{one_submit, one_aim, one_wide}
-use Rattle.cascade_path.proofs.Turns.{by_bool}
 
 abbrev pub Events : Type 0
 Events = List LoggedEvent
@@ -105,7 +105,7 @@ record BeginsAs (e : Event) (xs : Events) : Type 0 where
 
 begins_as : (e : Event) (xs : Events) → (take_event e xs ≡ None) ⊎ BeginsAs e xs
 begins_as e [] = inl refl
-begins_as e (x ∷ xs) = by_bool (same_event e x.event)
+begins_as e (x ∷ xs) = by_test (same_event e x.event) _
     (λ same. inr (record { first = x; rest = xs; is = refl; same = same; found = ap (λ (t : Bool). cond t (Some (x, xs)) None) same }))
     (λ other. inl (ap (λ (t : Bool). cond t (Some (x, xs)) None) other))
 
@@ -128,7 +128,7 @@ nothing_first : (ys : Events) (o : Option Events) → o ≡ None → o ≡ Some 
 nothing_first ys o a b = let n : None ≡ Some ys = sym a ∙ b in cc
 
 pub stage_begins : (n max u : ℕ) (a : Access) (go : Go) (xs ys : Events) → one_stage n max u a go xs ≡ Some ys → StageRefused n a xs ys ⊎ StageSubmitted n max u a go xs ys
-stage_begins n max u a go xs ys h = by_bool (is_narrow a) narrow wide
+stage_begins n max u a go xs ys h = by_test (is_narrow a) _ narrow wide
   where
     narrow : is_narrow a ≡ true → StageRefused n a xs ys ⊎ StageSubmitted n max u a go xs ys
     narrow w =
@@ -141,7 +141,7 @@ stage_begins n max u a go xs ys h = by_bool (is_narrow a) narrow wide
           last = b.first;
           rest = b.rest;
           is = b.is;
-          submission = inl (record { narrow = w; alone = refl; event = one_submit u n a b.first.event b.same });
+          submission = inl (record { narrow = w; alone = refl; event = same_event_is (events.Submit u n a) b.first.event b.same });
           piece = sym (ap (stage_piece n max u go) b.found) ∙ there;
         }))
         (begins_as e xs)
@@ -160,9 +160,9 @@ stage_begins n max u a go xs ys h = by_bool (is_narrow a) narrow wide
             wide = w;
             aim = b.first;
             after_aim = refl;
-            aims = one_aim n a.addr b.first.event b.same;
+            aims = same_event_is (events.Aim n a.addr) b.first.event b.same;
             aimed = aimed_reply b.first.reply aimed;
-            event = one_wide u n a.rrid a.kind a.len c.first.event c.same;
+            event = same_event_is (events.Wide u n a.rrid a.kind a.len) c.first.event c.same;
           });
           piece = sym (ap (stage_piece n max u go) c.found) ∙ there;
         }))
@@ -170,14 +170,7 @@ stage_begins n max u a go xs ys h = by_bool (is_narrow a) narrow wide
       where
         aimed_reply : (r : Reply) → is_aimed r ≡ true → r ≡ replies.Aimed
         aimed_reply replies.Aimed h = refl
-        aimed_reply replies.Passed h = absurd (let n : false ≡ true = h in cc)
-        aimed_reply replies.Queued h = absurd (let n : false ≡ true = h in cc)
-        aimed_reply replies.Busy h = absurd (let n : false ≡ true = h in cc)
-        aimed_reply (replies.Stalled d) h = absurd (let n : false ≡ true = h in cc)
-        aimed_reply (replies.Value v) h = absurd (let n : false ≡ true = h in cc)
-        aimed_reply (replies.Verdict v) h = absurd (let n : false ≡ true = h in cc)
-        aimed_reply replies.Held h = absurd (let n : false ≡ true = h in cc)
-        aimed_reply replies.NoSuch h = absurd (let n : false ≡ true = h in cc)
+        aimed_reply _ h = absurd (let n : false ≡ true = h in cc)
 
     wide : is_narrow a ≡ false → StageRefused n a xs ys ⊎ StageSubmitted n max u a go xs ys
     wide w =
@@ -187,10 +180,10 @@ stage_begins n max u a go xs ys h = by_bool (is_narrow a) narrow wide
         (λ (none : take_event e xs ≡ None). absurd (nothing_first ys (aimed_piece n max u go (wide_event u n a) (take_event e xs)) (ap (aimed_piece n max u go (wide_event u n a)) none) there))
         (λ (b : BeginsAs e xs).
         let after : if_aimed (is_aimed b.first.reply) n max u a go b.rest ≡ Some ys = sym (ap (aimed_piece n max u go (wide_event u n a)) b.found) ∙ there in
-        by_bool (is_aimed b.first.reply)
+        by_test (is_aimed b.first.reply) _
         (λ aimed. second w b aimed (subst (λ (z : Bool). if_aimed z n max u a go b.rest ≡ Some ys) aimed after))
         (λ refused.
         let left : Some b.rest ≡ Some ys = subst (λ (z : Bool). if_aimed z n max u a go b.rest ≡ Some ys) refused after in
         let same : b.rest ≡ ys = cc in
-        inl (record { aim = b.first; is = b.is ∙ ap (λ (l : Events). b.first ∷ l) same; refused = record { wide = w; aims = one_aim n a.addr b.first.event b.same; refused = refused } })))
+        inl (record { aim = b.first; is = b.is ∙ ap (λ (l : Events). b.first ∷ l) same; refused = record { wide = w; aims = same_event_is (events.Aim n a.addr) b.first.event b.same; refused = refused } })))
         (begins_as e xs)

@@ -1,8 +1,8 @@
 -- Judgements that are a whole record of up to some tries: all but the last are held.
-use Rattle.std.proofs.Common.{◌≡◌, ℕ, zero, suc, Bool, true, false, cond, List, [], ◌∷◌, ◌++◌, Option, Some, None, eqb, refl, sym, ap, ◌∙◌, subst, append-nil}
+use Rattle.std.proofs.Common.{◌≡◌, ℕ, zero, suc, Bool, true, false, cond, List, [], ◌∷◌, ◌++◌, Option, Some, None, refl, sym, ap, ◌∙◌, subst, append-nil}
 use Rattle.std.specs.Prelude.{◌&&◌, not, nat_lt}
 use Rattle.std.specs.List.{AllByRecursion}
-use Rattle.std.proofs.lemmas.Bool.{and_parts, eqb-true}
+use Rattle.std.proofs.lemmas.Bool.{and_parts}
 use Rattle.event_words.specs.declared.event.Event.{Event}
 use Rattle.event_words.specs.declared.event.Event.TheVariants as events
 use Rattle.event_words.specs.declared.reply.Reply.{Reply}
@@ -10,10 +10,8 @@ use Rattle.event_words.specs.declared.reply.Reply.TheVariants as replies
 use Rattle.event_words.specs.declared.record.LoggedEvent.{LoggedEvent}
 use Rattle.event_words.specs.Events.{same_event}
 use Rattle.event_words.specs.Records.{judgements, is_held}
-
-pub by_bool : {P : Type 0} (b : Bool) → (b ≡ true → P) → (b ≡ false → P) → P
-by_bool true p q = p refl
-by_bool false p q = q refl
+use Rattle.event_words.proofs.SameEvents.{same_event_is}
+use Rattle.event_words.proofs.Cases.{by_test}
 
 pub record IsHeldJudgement (unit caller place : ℕ) (x : LoggedEvent) : Type 0 where
   pub event : x.event ≡ events.Judge unit caller place
@@ -28,41 +26,13 @@ pub record AreJudgements (unit caller place : ℕ) (reply : Reply) (xs : List Lo
   pub event : last.event ≡ events.Judge unit caller place
   pub reply_is : last.reply ≡ reply
 
-same_judgement : (u c p : ℕ) (e : Event) → same_event (events.Judge u c p) e ≡ true → e ≡ events.Judge u c p
-same_judgement u c p (events.RegWrite x y i v) h = absurd (let n : false ≡ true = h in cc)
-same_judgement u c p (events.RegRead x y i) h = absurd (let n : false ≡ true = h in cc)
-same_judgement u c p (events.Submit x y a) h = absurd (let n : false ≡ true = h in cc)
-same_judgement u c p (events.Aim x a) h = absurd (let n : false ≡ true = h in cc)
-same_judgement u c p (events.Wide x y r k n) h = absurd (let n : false ≡ true = h in cc)
-same_judgement u c p (events.Judge x y q) h =
-    let one = and_parts (eqb u x) ((eqb c y) && (eqb p q)) h in
-    let two = and_parts (eqb c y) (eqb p q) one.1 in
-    let a : u ≡ x = eqb-true u x one.0 in
-    let b : c ≡ y = eqb-true c y two.0 in
-    let d : p ≡ q = eqb-true p q two.1 in
-    cc
-
 held_reply : (r : Reply) → is_held r ≡ true → r ≡ replies.Held
 held_reply replies.Held h = refl
-held_reply replies.Passed h = absurd (let n : false ≡ true = h in cc)
-held_reply replies.Queued h = absurd (let n : false ≡ true = h in cc)
-held_reply replies.Busy h = absurd (let n : false ≡ true = h in cc)
-held_reply (replies.Stalled d) h = absurd (let n : false ≡ true = h in cc)
-held_reply (replies.Value v) h = absurd (let n : false ≡ true = h in cc)
-held_reply (replies.Verdict v) h = absurd (let n : false ≡ true = h in cc)
-held_reply replies.NoSuch h = absurd (let n : false ≡ true = h in cc)
-held_reply replies.Aimed h = absurd (let n : false ≡ true = h in cc)
+held_reply _ h = absurd (let n : false ≡ true = h in cc)
 
 pub held_not : (r : Reply) → (r ≡ replies.Held → ⊥) → is_held r ≡ false
 held_not replies.Held h = absurd (h refl)
-held_not replies.Passed h = refl
-held_not replies.Queued h = refl
-held_not replies.Busy h = refl
-held_not (replies.Stalled d) h = refl
-held_not (replies.Value v) h = refl
-held_not (replies.Verdict v) h = refl
-held_not replies.NoSuch h = refl
-held_not replies.Aimed h = refl
+held_not _ h = refl
 
 abbrev judged_as : Bool → Bool → ℕ → Event → LoggedEvent → List LoggedEvent → Option (Reply × List LoggedEvent)
 judged_as same on n e x xs = cond (not same) None (cond on (judgements n e xs) (Some (x.reply, xs)))
@@ -91,11 +61,11 @@ begins_with_judgements zero u c p r xs ys h = absurd (let n : None ≡ Some (r, 
 begins_with_judgements (suc n) u c p r [] ys h = absurd (let n : None ≡ Some (r, ys) = h in cc)
 begins_with_judgements (suc n) u c p r (x ∷ xs) ys h =
     let e : Event = events.Judge u c p in
-    by_bool (same_event e x.event)
+    by_test (same_event e x.event) _
     (λ same.
-    let is : x.event ≡ e = same_judgement u c p x.event same in
+    let is : x.event ≡ e = same_event_is e x.event same in
     let there : judged_as true (is_held x.reply && nat_lt 0 n) n e x xs ≡ Some (r, ys) = subst (λ (t : Bool). judged_as t (is_held x.reply && nat_lt 0 n) n e x xs ≡ Some (r, ys)) same h in
-    by_bool (is_held x.reply && nat_lt 0 n)
+    by_test (is_held x.reply && nat_lt 0 n) _
     (λ on.
     let parts = and_parts (is_held x.reply) (nat_lt 0 n) on in
     let more = begins_with_judgements n u c p r xs ys (subst (λ (t : Bool). judged_as true t n e x xs ≡ Some (r, ys)) on there) in

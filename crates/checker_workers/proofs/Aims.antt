@@ -14,9 +14,9 @@ use Rattle.event_words.specs.Records.{events_by, wide_event}
 use Rattle.event_words.specs.Runs.{run_from, logged_from, logged_first}
 use Rattle.event_words.specs.Word.{event_of_word}
 use Rattle.event_words.proofs.Runs.{events-of-beginning}
+use Rattle.event_words.proofs.Cases.{by_test}
 use Rattle.unit_core.specs.Units.{FabricState, aim_of, aims_after, no_aims, submission_of, taken_step, fabric_step, decoded_step}
 use Rattle.unit_core.specs.Fabrics.{state_after_word, reply_to_word}
-use Rattle.cascade_path.proofs.Turns.{by_bool}
 use Rattle.checker_workers.specs.Ports.{PortView, IsAtReset, MakesEvent, port_events, state_after, unit_count}
 use Rattle.checker_workers.proofs.Making.{Answers, answers, ComesAs}
 
@@ -41,27 +41,15 @@ last_aim-append addr (y ∷ ys) x = last_aim-append (aim_in addr y.event) ys x
 
 own_aim : (aims : List ℕ) (c : ℕ) (e : Event) → c < length aims → caller_of e ≡ c → aim_of (aims_after aims e) c ≡ aim_in (aim_of aims c) e
 own_aim aims c (events.Aim d a) h is = ap (λ (n : ℕ). slice_index (set aims n a) c) is ∙ get_or-set_same aims c a 0 h
-own_aim aims c (events.RegWrite u d i v) h is = refl
-own_aim aims c (events.RegRead u d i) h is = refl
-own_aim aims c (events.Submit u d a) h is = refl
-own_aim aims c (events.Judge u d p) h is = refl
-own_aim aims c (events.Wide u d r k n) h is = refl
+own_aim aims c _ h is = refl
 
 other_aim : (aims : List ℕ) (c : ℕ) (e : Event) → (caller_of e ≡ c → ⊥) → aim_of (aims_after aims e) c ≡ aim_of aims c
 other_aim aims c (events.Aim d a) ne = get_or-set_other aims d c a 0 (λ s. ne (sym s))
-other_aim aims c (events.RegWrite u d i v) ne = refl
-other_aim aims c (events.RegRead u d i) ne = refl
-other_aim aims c (events.Submit u d a) ne = refl
-other_aim aims c (events.Judge u d p) ne = refl
-other_aim aims c (events.Wide u d r k n) ne = refl
+other_aim aims c _ ne = refl
 
 event_aims : (aims : List ℕ) (e : Event) → length (aims_after aims e) ≡ length aims
 event_aims aims (events.Aim d a) = length-set aims d a
-event_aims aims (events.RegWrite u d i v) = refl
-event_aims aims (events.RegRead u d i) = refl
-event_aims aims (events.Submit u d a) = refl
-event_aims aims (events.Judge u d p) = refl
-event_aims aims (events.Wide u d r k n) = refl
+event_aims aims _ = refl
 
 -- ---- words
 
@@ -93,7 +81,7 @@ goes : (c k : ℕ) (s : FabricState) (w : ℕ) (ws : List ℕ) → c < length s.
 goes c k s w ws h rest None = rest s h
 goes c k s w ws h rest (Some e) =
     let later : AimsSo c (suc k) (fabric_step k s e).0 ws = rest (fabric_step k s e).0 (let l = event_aims s.aims e in omega arith) in
-    by_bool (eqb (caller_of e) c)
+    by_test (eqb (caller_of e) c) _
     (λ own. kept c k s w ws e true own later (own_aim s.aims c e h (eqb-true (caller_of e) c own)))
     (λ other. kept c k s w ws e false other later (other_aim s.aims c e (λ is. let n : true ≡ false = sym (eq-eqb (caller_of e) c is) ∙ other in cc)))
 

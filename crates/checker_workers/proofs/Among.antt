@@ -15,7 +15,7 @@ use Rattle.shared_log.specs.Callers.{AfterCall}
 use Rattle.shared_log.specs.Words.{AllEventWords}
 use Rattle.shared_log.proofs.WordLists.{AllEventWords-left, AllEventWords-right}
 use Rattle.event_words.proofs.EventWords.{HasEvent, word_event}
-use Rattle.cascade_path.proofs.Turns.{by_bool}
+use Rattle.event_words.proofs.Cases.{by_test}
 use Rattle.checker_workers.specs.Ports.{PortView, MakesEvent, port_events}
 use Rattle.checker_workers.proofs.Making.{makes_event}
 
@@ -94,14 +94,14 @@ cut_at c k st [] [] x later all h = absurd (let z : [] ≡ x ∷ later = h in cc
 cut_at c k st [] (b ∷ bs) x later all h = absurd (let z : [] ≡ b ∷ (bs ++ x ∷ later) = h in cc)
 cut_at c k st (w ∷ words) [] x later all h =
     let e = word_event w all.0 in
-    by_bool (eqb (caller_of e.event) c)
+    by_test (eqb (caller_of e.event) c) _
     (λ own. cut_here c k st w words e x later own (same_ends _ x _ later (sym (with_first c k st w words e true own) ∙ h)))
     (λ other.
     let t = cut_at c (suc k) (state_after_word st k w) words [] x later all.1 (sym (with_first c k st w words e false other) ∙ h) in
     cut_later c k st w words [] [] x later t (with_first c k st w t.earlier e false other ∙ t.before_is))
 cut_at c k st (w ∷ words) (b ∷ bs) x later all h =
     let e = word_event w all.0 in
-    by_bool (eqb (caller_of e.event) c)
+    by_test (eqb (caller_of e.event) c) _
     (λ own.
     let s = same_ends _ b _ (bs ++ x ∷ later) (sym (with_first c k st w words e true own) ∙ h) in
     let t = cut_at c (suc k) (state_after_word st k w) words bs x later all.1 s.rest in

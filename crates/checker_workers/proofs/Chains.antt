@@ -18,6 +18,7 @@ use Rattle.event_words.specs.Runs.{logged_from, logged_first}
 use Rattle.event_words.specs.Sections.{IsBelow}
 use Rattle.event_words.specs.Valid.{IsValidEvent}
 use Rattle.event_words.specs.Word.{event_of_word}
+use Rattle.event_words.proofs.Cases.{by_test}
 use Rattle.unit_core.specs.Units.{FabricState}
 use Rattle.unit_core.specs.Fabrics.{state_after_word, reply_to_word}
 use Rattle.shared_log.specs.Words.{AllEventWords}
@@ -30,7 +31,7 @@ use Rattle.cascade_path.specs.Stages.{IsNarrowSubmission, IsWideSubmission, IsSu
 use Rattle.cascade_path.proofs.Causes.{last-append}
 use Rattle.cascade_path.proofs.LastStage.{LastStage, EndsUnaimed, EndsRefused, EndsJudged, borne_by, last_stage_of}
 use Rattle.cascade_path.proofs.Submitting.{Go, StageRefused, StageSubmitted, stage_begins, submission_decides}
-use Rattle.cascade_path.proofs.Turns.{by_bool, IsHeldJudgement, AreJudgements, BeginsWithJudgements, begins_with_judgements}
+use Rattle.cascade_path.proofs.Turns.{IsHeldJudgement, AreJudgements, BeginsWithJudgements, begins_with_judgements}
 use Rattle.checker_workers.specs.Ports.{PortView, EndWhole, IsAtReset, MakesEvent, is_aim, is_aim_logged, port_events, unit_count}
 use Rattle.checker_workers.specs.TicketViews.{TicketView}
 use Rattle.checker_workers.specs.Tickets.{IsOpenTicket, is_end, is_submit_reply, last_ticket, submits_on}
@@ -53,11 +54,7 @@ plain_submission stage replies.Passed h = refl
 plain_submission stage replies.Queued h = refl
 plain_submission stage replies.Busy h = refl
 plain_submission stage (replies.Stalled d) h = refl
-plain_submission stage (replies.Value v) h = absurd (let n : false ≡ true = h in cc)
-plain_submission stage (replies.Verdict v) h = absurd (let n : false ≡ true = h in cc)
-plain_submission stage replies.Held h = absurd (let n : false ≡ true = h in cc)
-plain_submission stage replies.NoSuch h = absurd (let n : false ≡ true = h in cc)
-plain_submission stage replies.Aimed h = absurd (let n : false ≡ true = h in cc)
+plain_submission stage _ h = absurd (let n : false ≡ true = h in cc)
 
 plain_verdict : (stage place : ℕ) (v : Verdict) → ((next : ℕ) → v ≡ verdicts.Allowed next → next ≤ 63) → is_odd (judgement_answer stage place (replies.Verdict v)) ≡ false
 plain_verdict stage place (verdicts.Allowed next) small = ap (λ (t : Bool). is_odd (cond t (Allowed next) (Odd stage (replies.Verdict (verdicts.Allowed next))))) (le-leb next 63 (small next refl))
@@ -90,11 +87,7 @@ aim_decides stage replies.NoSuch answer h = let n : Some (Odd stage replies.NoSu
 
 no_aim_decides : (stage : ℕ) (e : Event) (r : Reply) (answer : ChainReply) → answer_to stage e r ≡ Some answer → is_odd answer ≡ false → is_aim e ≡ false
 no_aim_decides stage (events.Aim c a) r answer h plain = absurd (let n : true ≡ false = sym (aim_decides stage r answer h) ∙ plain in cc)
-no_aim_decides stage (events.RegWrite u c i v) r answer h plain = refl
-no_aim_decides stage (events.RegRead u c i) r answer h plain = refl
-no_aim_decides stage (events.Submit u c a) r answer h plain = refl
-no_aim_decides stage (events.Judge u c p) r answer h plain = refl
-no_aim_decides stage (events.Wide u c w k n) r answer h plain = refl
+no_aim_decides stage _ r answer h plain = refl
 
 chain_whole : (made : Events) (answer : ChainReply) → chain_reply made ≡ Some answer → is_odd answer ≡ false → EndWhole made
 chain_whole made answer decided plain = by (last_or None made) decided
@@ -241,7 +234,7 @@ abbrev IsPast : ℕ → LoggedEvent → Type 0
 IsPast k x = k ≤ x.place
 
 by_past : (k c : ℕ) (x : LoggedEvent) (xs : Events) → k ≤ x.place → AllByRecursion (IsPast k) (events_by c xs) → AllByRecursion (IsPast k) (events_by c (x ∷ xs))
-by_past k c x xs h rest = by_bool (eqb (caller_of x.event) c)
+by_past k c x xs h rest = by_test (eqb (caller_of x.event) c) _
     (λ own. subst (λ (t : Bool). AllByRecursion (IsPast k) (cond t (x ∷ events_by c xs) (events_by c xs))) (sym own) (h, rest))
     (λ other. subst (λ (t : Bool). AllByRecursion (IsPast k) (cond t (x ∷ events_by c xs) (events_by c xs))) (sym other) rest)
 
@@ -317,7 +310,7 @@ none_ends u n max a (s ∷ ss) rrid made past h =
     after_it : Again → (x : LoggedEvent) (xs : Events) → u.place < x.place → AllByRecursion (IsPast (u.place + 1)) xs → stage_piece n max s (through_stages n max a ss) (Some (x, xs)) ≡ Some [] → list_any (is_end u) xs ≡ false
     after_it again x xs later past h =
         let go : Go = through_stages n max a ss in
-        let j : Option (Reply × Events) = judgements max (events.Judge s n x.place) xs in by_bool (is_taken x.reply)
+        let j : Option (Reply × Events) = judgements max (events.Judge s n x.place) xs in by_test (is_taken x.reply) _
         (λ taken. judged again x xs later past j refl (subst (λ (t : Bool). cond t (stage_judged go j) (Some xs) ≡ Some []) taken h))
         (λ refused. none_left u xs (subst (λ (t : Bool). cond t (stage_judged go j) (Some xs) ≡ Some []) refused h))
 

@@ -29,10 +29,10 @@ use Rattle.unit_core.specs.Histories.{History, after_event, aims_at, units_at, e
 use Rattle.shared_log.specs.Words.{AllEventWords}
 use Rattle.history_laws.specs.Verdicts.{verdict_of, IsDecided}
 use Rattle.event_words.proofs.Runs.{event_of_word-word_of}
+use Rattle.event_words.proofs.Cases.{by_test}
 use Rattle.history_laws.proofs.QueueLaw.{written-shape, recorded-shape}
 use Rattle.history_laws.proofs.VerdictLaw.{law_verdicts}
 use Rattle.history_laws.proofs.WordHistories.{events_at_words, event_at_words, reply_at_words, word_at_place}
-use Rattle.cascade_path.proofs.Turns.{by_bool}
 use Rattle.unit_core.proofs.HeldBack.{by_cond}
 use Rattle.checker_workers.specs.Ports.{PortView, IsAtReset, MakesEvent, state_after}
 use Rattle.checker_workers.proofs.Making.{reply_of_event, submit_on}
@@ -146,7 +146,7 @@ small_submitted aims (Some (events.Submit v d b)) u c a valid e =
     subst (λ (n : ℕ). n ≤ 63) (same_access v d u c b a e) (valid (events.Submit v d b) refl).1.rrid
 small_submitted aims (Some (events.Wide v d r k n)) u c a valid e =
     let b : Access = wide_access aims d r k n in
-    let some : Event = events.Submit v d b in by_bool (nat_le (b.addr + b.len) (2 ^ 52))
+    let some : Event = events.Submit v d b in by_test (nat_le (b.addr + b.len) (2 ^ 52)) _
     (λ fits.
     let is : Some (submission v d b) ≡ Some (submission u c a) = subst (λ (t : Bool). option_and_then submitted (if t then Some some else None) ≡ Some (submission u c a)) fits e in
     subst (λ (n : ℕ). n ≤ 63) (same_access v d u c b a is) (valid (events.Wide v d r k n) refl).1)

@@ -6,7 +6,7 @@ use Rattle.event_words.specs.declared.event.Event.{Event}
 use Rattle.event_words.specs.declared.record.LoggedEvent.{LoggedEvent}
 use Rattle.event_words.specs.Events.{same_event}
 use Rattle.event_words.specs.Records.{polls, hits}
-use Rattle.cascade_path.proofs.Repeats.{same_event-refl}
+use Rattle.event_words.proofs.SameEvents.{same_event_self}
 
 -- What up to n reads more give, after reads that all missed.
 abbrev pub polls_left : ℕ → Event → ℕ → ℕ → List LoggedEvent → Option (Bool × List LoggedEvent)
@@ -23,11 +23,11 @@ missed_by (suc n) e mask value xs = ap (λ (t : Bool). cond t (polls (suc n) e m
 -- one more that missed
 pub polls-missed : (n : ℕ) (e : Event) (mask value : ℕ) (x : LoggedEvent) (xs : List LoggedEvent) → x.event ≡ e → hits mask value x.reply ≡ false → polls_left (suc n) e mask value (x ∷ xs) ≡ polls_left n e mask value xs
 polls-missed n e mask value x xs is h =
-    ap (λ (s : Bool). polled_on s (hits mask value x.reply) n e mask value xs) (ap (same_event e) is ∙ same_event-refl e)
+    ap (λ (s : Bool). polled_on s (hits mask value x.reply) n e mask value xs) (ap (same_event e) is ∙ same_event_self e)
     ∙ ap (λ (t : Bool). polled_on true t n e mask value xs) h ∙ missed_by n e mask value xs
 
 -- the last, which hit
 pub polls-hit : (n : ℕ) (e : Event) (mask value : ℕ) (x : LoggedEvent) (xs : List LoggedEvent) → x.event ≡ e → hits mask value x.reply ≡ true → polls_left (suc n) e mask value (x ∷ xs) ≡ Some (true, xs)
 polls-hit n e mask value x xs is h =
-    ap (λ (s : Bool). polled_on s (hits mask value x.reply) n e mask value xs) (ap (same_event e) is ∙ same_event-refl e)
+    ap (λ (s : Bool). polled_on s (hits mask value x.reply) n e mask value xs) (ap (same_event e) is ∙ same_event_self e)
     ∙ ap (λ (t : Bool). polled_on true t n e mask value xs) h

@@ -19,6 +19,7 @@ use Rattle.event_words.specs.Events.{same_event}
 use Rattle.event_words.specs.Records.{is_by, events_by, is_taken, is_verdict}
 use Rattle.event_words.specs.Runs.{IsEventWord, run, logged}
 use Rattle.event_words.proofs.Runs.{events-of-beginning, word_of-is_word, event_of_word-word_of}
+use Rattle.event_words.proofs.SameEvents.{same_event_self}
 use Rattle.unit_core.specs.Units.{FabricState, fabric_at_reset}
 use Rattle.unit_core.specs.Fabrics.{state_after_word, reply_to_word}
 use Rattle.unit_core.specs.Histories.{History, event_at, reply_at, history_of, events_of_words, logged_in}
@@ -29,7 +30,6 @@ use Rattle.history_laws.proofs.Accepted.{Submits, taken_submission}
 use Rattle.history_laws.proofs.WordHistories.{event_at_words, reply_at_words, is_entry, has_entry, length_events}
 use Rattle.history_laws.proofs.LoggedTests.{found_kept, none_kept}
 use Rattle.history_laws.proofs.TicketReplies.{IsJudged, judged_open, same_event_before, same_reply_before}
-use Rattle.cascade_path.proofs.Repeats.{same_event-refl}
 use Rattle.checker_workers.specs.Ports.{PortView, IsAtReset, MakesEvent, port_events, state_after}
 use Rattle.checker_workers.specs.TicketViews.{TicketView}
 use Rattle.checker_workers.specs.Tickets.{IsOpenTicket, is_ticket_submission, is_end, submits_on}
@@ -43,13 +43,7 @@ judgement t = events.Judge t.unit t.caller t.place
 taken_reply : (r : Reply) → is_taken r ≡ true → (r ≡ replies.Passed) ⊎ (r ≡ replies.Queued)
 taken_reply replies.Passed e = inl refl
 taken_reply replies.Queued e = inr refl
-taken_reply replies.Busy e = absurd (let n : false ≡ true = e in cc)
-taken_reply (replies.Stalled d) e = absurd (let n : false ≡ true = e in cc)
-taken_reply (replies.Value v) e = absurd (let n : false ≡ true = e in cc)
-taken_reply (replies.Verdict v) e = absurd (let n : false ≡ true = e in cc)
-taken_reply replies.Held e = absurd (let n : false ≡ true = e in cc)
-taken_reply replies.NoSuch e = absurd (let n : false ≡ true = e in cc)
-taken_reply replies.Aimed e = absurd (let n : false ≡ true = e in cc)
+taken_reply _ e = absurd (let n : false ≡ true = e in cc)
 
 -- A submission that was taken, whose access may be told by its history alone.
 record IsFound (t : TicketView) (x : LoggedEvent) : Type 0 where
@@ -64,12 +58,9 @@ finds t x e =
     record { place = eqb-true x.place t.place a.0; submits = b.0; reply = taken_reply x.reply b.1 }
 
 submits_so : (u c : ℕ) (e : Event) → submits_on u c e ≡ true → Submits u c e
-submits_so u c (events.RegWrite x y i v) s = absurd (let n : false ≡ true = s in cc)
-submits_so u c (events.RegRead x y i) s = absurd (let n : false ≡ true = s in cc)
-submits_so u c (events.Judge x y j) s = absurd (let n : false ≡ true = s in cc)
-submits_so u c (events.Aim y d) s = absurd (let n : false ≡ true = s in cc)
 submits_so u c (events.Submit x y a) s = let b = and_parts (eqb x u) (eqb y c) s in (eqb-true x u b.0, eqb-true y c b.1)
 submits_so u c (events.Wide x y r k n) s = let b = and_parts (eqb x u) (eqb y c) s in (eqb-true x u b.0, eqb-true y c b.1)
+submits_so u c _ s = absurd (let n : false ≡ true = s in cc)
 
 -- An event that submits, and that was taken, is a submission of some access.
 taken_there : (h : History) (k p u c : ℕ) (e : Event) (r : Reply) → event_at h k ≡ Some e → reply_at h k ≡ Some r → (r ≡ replies.Passed) ⊎ (r ≡ replies.Queued) → submits_on u c e ≡ true → k ≡ p → (a : Access) × IsTaken h u c p a
@@ -81,7 +72,7 @@ taken_there h k p u c e r event reply taken submits place =
 ends : (t : TicketView) (x : LoggedEvent) (v : Verdict) → t.place < x.place → x.event ≡ judgement t → x.reply ≡ replies.Verdict v → is_end t x ≡ true
 ends t x v later e r =
     and_from (nat_lt t.place x.place) _ (lt-ltb t.place x.place later)
-    (and_from (same_event (judgement t) x.event) (is_verdict x.reply) (ap (same_event (judgement t)) e ∙ same_event-refl (judgement t)) (ap is_verdict r))
+    (and_from (same_event (judgement t) x.event) (is_verdict x.reply) (ap (same_event (judgement t)) e ∙ same_event_self (judgement t)) (ap is_verdict r))
 
 -- ---- over words
 

@@ -1,5 +1,5 @@
 -- Marks of entries in rows of addresses.
-use Rattle.std.proofs.Common.{◌&&◌, [], ◌≡◌, ◌≢◌, ℕ, suc, zero, pow-add, take, drop, ◌++◌, ◌+◌, ◌-◌, ◌*◌, ◌/◌, ◌%◌, ◌^◌, ◌<◌, ◌≤◌, Bool, true, false, List, Option, Some, None, find, min, max, bit_or, bit_and, length, slice_index_or, slice_set, w64, arith, refl, sym, ap, ◌∙◌, ⊎_elim, subst}
+use Rattle.std.proofs.Common.{[], ◌≡◌, ◌≢◌, ℕ, suc, zero, pow-add, take, drop, ◌++◌, ◌+◌, ◌-◌, ◌*◌, ◌/◌, ◌%◌, ◌^◌, ◌<◌, ◌≤◌, Bool, true, false, List, Option, Some, None, find, min, max, bit_or, bit_and, length, slice_index_or, slice_set, w64, arith, refl, sym, ap, ◌∙◌, ⊎_elim, subst}
 use Rattle.std.specs.Int.{bit_at, trailing_zeros}
 use Rattle.std.specs.List.{range_with_len, list_any, list_all}
 use Rattle.std.proofs.Math.Seq.{take-append_seam}
@@ -7,13 +7,16 @@ use Rattle.std.proofs.Math.Nat.{div-div-eq-div-mul, div-le_self}
 use Rattle.std.proofs.lemmas.Bool.{cases_eq, cases_lt}
 use Rattle.std.proofs.lemmas.List.{get_or-set_same, get_or-set_other, length-set}
 use Rattle.std.proofs.lemmas.Nat.Bits.{bit_at_or, bit_at-lt, bit_at_set_same, bit_at_set_other, bit_at_clear_other, bit_at-trailing_zeros, bit_at-zero, bit_at_above}
+use Rattle.std.proofs.Math.Bool.{and-false}
 use Rattle.event_words.specs.declared.access.Access.{Access}
 use Rattle.event_words.specs.Registers.{Registers}
 use Rattle.event_words.specs.Entries.{touches, covers}
 use Rattle.event_words.specs.Domains.{owner_of, is_associated}
 use Rattle.event_words.specs.Decisions.{prio_count, is_touching, is_covering, covering}
+use Rattle.event_words.proofs.Cases.{by_test}
+use Rattle.event_words.proofs.Ranges.{none_any}
 use Rattle.entry_ranges.specs.declared.ByteRange.{ByteRange}
-use Rattle.mdcfg_formats.proofs.Searches.{by_test, find_later}
+use Rattle.mdcfg_formats.proofs.Searches.{find_later}
 use Rattle.decoded_tables.specs.Standing.{range_at, StandsFor, is_in, is_touched, is_covered}
 use Rattle.decoded_tables.specs.Walking.{covering_below}
 use Rattle.decoded_tables.specs.Marks.{row_of, IsMarked, MarksFor}
@@ -130,12 +133,20 @@ unset_all word from group start j e low h g l none =
       ap (bit_at word) (sym place) ∙ (sym (shifted word shift (j - start)) ∙ (ap (λ n. bit_at n (j - start)) none ∙ bit_at-zero (j - start))),
     )
 
--- ---- what an entry without a mark in the rows of a transaction is
+-- None of these entries is marked in a row of the transaction.
+abbrev pub NoneMarked : List ℕ → Access → ℕ → ℕ → Type 0
+NoneMarked marks a from to = (j x : ℕ) → from ≤ j → j < to → a.addr ≤ x → x < a.addr + a.len → IsMarked marks j (row_of x) → ⊥
 
-none_any : (p : ℕ → Bool) (a n : ℕ) → ((x : ℕ) → a ≤ x → x < a + n → p x ≡ false) → list_any p (range_with_len a n) ≡ false
-none_any p a zero h = refl
-none_any p a (suc n) h =
-    rw (h a (omega arith) (omega arith)) (none_any p (a + 1) n (λ x y z. h x (omega arith) (omega arith)))
+-- None before a group is, and those of the group up to `to` aren't where its word has no bit of theirs.
+pub none_through : (marks : List ℕ) (a : Access) (word from group to : ℕ) → NoneMarked marks a from (group * 64)
+    → ((j x : ℕ) → j / 64 ≡ group → a.addr ≤ x → x < a.addr + a.len → IsMarked marks j (row_of x) → bit_at word (j % 64) ≡ 1)
+    → ((j : ℕ) → from ≤ j → group * 64 ≤ j → j < to → (j / 64 ≡ group) × (bit_at word (j % 64) ≡ 0)) → NoneMarked marks a from to
+none_through marks a word from group to before bits unset j x h l lo hi t = ⊎_elim
+    (λ (s : j < group * 64). before j x h s lo hi t)
+    (λ (s : group * 64 ≤ j). let u = unset j h s l in omega (arith, u.1, bits j x u.0 lo hi t))
+    (cases_lt j (group * 64))
+
+-- ---- what an entry without a mark in the rows of a transaction is
 
 pub untouched : (marks : List ℕ) (ranges : List (Option ByteRange)) (a : Access) (j : ℕ) → MarksFor marks ranges → j < length ranges
     → ((x : ℕ) → a.addr ≤ x → x < a.addr + a.len → IsMarked marks j (row_of x) → ⊥) → is_touched ranges a j ≡ false
@@ -197,20 +208,16 @@ whole n xs ys e = subst (λ k. take k (xs ++ drop (length xs) ys) ≡ xs) e (tak
 
 -- ---- where no entry has a mark in the rows of a transaction
 
-not_other : (b : Bool) → (b && false) ≡ false
-not_other true = refl
-not_other false = refl
-
 pub none_touching : (ranges : List (Option ByteRange)) (r : Registers) (a : Access) (n : ℕ) → StandsFor ranges r → n ≤ r.shape.entries → ((j : ℕ) → 0 ≤ j → j < n → is_touched ranges a j ≡ false)
     → (m : ℕ) → m < n → is_touching r a m ≡ false
 none_touching ranges r a n stands h none m l =
     let t : touches r m a ≡ false = touched_here ranges r a m (stands.each m (omega arith)) ∙ none m (omega arith) l in
-    rw (t, not_other, not_other) refl
+    rw (t, and-false, and-false) refl
 
 pub none_covering : (ranges : List (Option ByteRange)) (r : Registers) (a : Access) (from : ℕ) → StandsFor ranges r → 1 ≤ a.len → from ≤ r.shape.entries → from ≤ prio_count r
     → ((j : ℕ) → from ≤ j → j < r.shape.entries → is_touched ranges a j ≡ false) → covering r a ≡ []
 none_covering ranges r a from stands some h l none =
     filter_between (is_covering r a) from r.shape.entries h (λ j x y.
     let t : covers r j a ≡ false = covered_here ranges r a j (stands.each j y) ∙ uncovered ranges a j some (none j x y) in
-    rw (t, not_other, not_other) refl)
+    rw (t, and-false, and-false) refl)
     ∙ cover_start r a from l

@@ -1,6 +1,7 @@
 -- Neighbours in a filtered list.
 use Rattle.std.proofs.Common.{◌≡◌, ℕ, zero, suc, ◌<◌, Bool, true, false, List, [], ◌∷◌, Some, filter, cond, refl, sym, subst, arith}
 use Rattle.std.specs.Prelude.{slice_get}
+use Rattle.event_words.proofs.Cases.{by_test}
 
 -- each element with the one after it
 abbrev pub AllPairs : {X : Type 0} → (X → X → Type 0) → List X → Type 0
@@ -24,14 +25,10 @@ pairs_before P x (y ∷ ys) f h = (f, h)
 abbrev pub IsFirstAt : {X : Type 0} → (X → Bool) → List X → ℕ → X → Type 0
 IsFirstAt {X} p xs k y = (slice_get xs k ≡ Some y) × (p y ≡ true) × ((j : ℕ) (z : X) → j < k → slice_get xs j ≡ Some z → p z ≡ false)
 
-by_bool : {P : Type 0} (b : Bool) → (b ≡ true → P) → (b ≡ false → P) → P
-by_bool true f g = f refl
-by_bool false f g = g refl
-
 follows : {X : Type 0} (P : X → X → Type 0) (p : X → Bool) (x : X) (xs : List X) → ((k : ℕ) (y : X) → IsFirstAt p xs k y → P x y) → FollowsFirst P x (filter p xs)
 follows P p x [] each = tt
 follows {X} P p x (y ∷ ys) each =
-    by_bool (p y)
+    by_test (p y) _
     (λ t. subst (λ b. FollowsFirst P x (cond b (y ∷ filter p ys) (filter p ys))) (sym t) (each 0 y (refl, t, λ j z l e. absurd (omega arith))))
     (λ t. subst (λ b. FollowsFirst P x (cond b (y ∷ filter p ys) (filter p ys))) (sym t) (follows P p x ys (λ k z f. each (suc k) z (f.0, f.1, before k z t f))))
   where
@@ -57,7 +54,7 @@ pub pairs_filtered : {X : Type 0} (P : X → X → Type 0) (p : X → Bool) (xs 
 pairs_filtered P p [] each = tt
 pairs_filtered P p (x ∷ xs) each =
     let rest = pairs_filtered P p xs (λ i k y z n. each (suc i) (suc k) y z (let l = n.0 in omega arith, n.1, n.2, n.3, n.4, apart p x xs i k y z n)) in
-    by_bool (p x)
+    by_test (p x) _
     (λ t. subst (λ b. AllPairs P (cond b (x ∷ filter p xs) (filter p xs))) (sym t) (pairs_before P x (filter p xs) (follows P p x xs (λ k y f. each 0 (suc k) x y (omega arith, refl, f.0, t, f.1, between p x xs k y f))) rest))
     (λ t. subst (λ b. AllPairs P (cond b (x ∷ filter p xs) (filter p xs))) (sym t) rest)
 

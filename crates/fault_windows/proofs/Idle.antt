@@ -3,6 +3,7 @@ use Rattle.std.proofs.Common.{◌≡◌, ℕ, suc, ◌+◌, ◌^◌, ◌<◌, le
 use Rattle.std.specs.Prelude.{nat_eq, option_and_then}
 use Rattle.std.specs.Option.{option_eq}
 use Rattle.std.proofs.lemmas.Bool.{and_left, and_right, cond-true, cond-false, cond_both, ne_eqb, and_from, false_from_ne_true}
+use Rattle.std.proofs.Math.Bool.{and-true}
 use Rattle.event_words.specs.declared.access.Access.{Access}
 use Rattle.event_words.specs.declared.event.Event.{Event}
 use Rattle.event_words.specs.declared.event.Event.TheVariants.{RegWrite, RegRead, Submit, Judge, Aim, Wide}
@@ -16,7 +17,7 @@ use Rattle.fault_windows.specs.declared.monitor.UnitFaults.{UnitFaults}
 use Rattle.fault_windows.specs.LateViolations.{requester_of, is_kept_violation, is_recorded, is_late_by, is_late}
 use Rattle.fault_windows.specs.Windows.{reads_windows, is_reading, window_of, next_window, is_pending, pending_after, shown_before, pending_at, turn_at, window_at}
 use Rattle.fault_windows.specs.Kept.{requesters_in, HasSeenUnit}
-use Rattle.fault_windows.proofs.Tests.{same_filter, same_passes, and_true}
+use Rattle.fault_windows.proofs.Tests.{same_filter, same_passes}
 use Rattle.fault_windows.proofs.Places.{some_same, same_some, pending_next, turn_next, after_shown}
 use Rattle.fault_windows.proofs.Records.{IsElsewhere, state_other}
 
@@ -52,7 +53,7 @@ pub late_now : (h : History) (u s t k : ℕ) (e : Event) (r : Reply) → taken_a
 late_now h u s t k e r p q on n v b =
     late_is h u s k e r p q
     ∙ (ap (λ x. x && (option_eq nat_eq (requester_of h e) (Some s) && (is_kept_violation r && is_recorded (state_at h k u)))) (same_some (unit_of e) u on)
-    ∙ (ap (λ x. option_eq nat_eq (requester_of h e) (Some s) && x) (and_from _ _ v b) ∙ (and_true _ ∙ ap (λ o. option_eq nat_eq o (Some s)) n)))
+    ∙ (ap (λ x. option_eq nat_eq (requester_of h e) (Some s) && x) (and_from _ _ v b) ∙ (and-true _ ∙ ap (λ o. option_eq nat_eq o (Some s)) n)))
 
 -- ---- windows at this place
 

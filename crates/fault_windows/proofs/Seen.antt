@@ -4,6 +4,7 @@ use Rattle.std.specs.Prelude.{nat_eq, option_map, option_and_then}
 use Rattle.std.specs.Option.{option_eq}
 use Rattle.std.specs.List.{range_with_len}
 use Rattle.std.proofs.lemmas.Bool.{and_right, cond-true, cond-false, eq-eqb, ne_eqb, and_from}
+use Rattle.std.proofs.Math.Bool.{and-true}
 use Rattle.event_words.specs.declared.access.Access.{Access}
 use Rattle.event_words.specs.declared.access.Kind.{Kind}
 use Rattle.event_words.specs.declared.event.Event.{Event}
@@ -12,17 +13,18 @@ use Rattle.event_words.specs.declared.reply.Reply.{Reply}
 use Rattle.event_words.specs.declared.reply.Reply.TheVariants as replies
 use Rattle.event_words.specs.Events.{unit_of}
 use Rattle.event_words.specs.Registers.{has_bit}
+use Rattle.event_words.proofs.Cases.{by_test}
 use Rattle.unit_core.specs.Units.{taken_as, wide_access, taken_step, event_step}
 use Rattle.unit_core.specs.Histories.{History, units_at, aims_at, state_at, event_at, reply_at}
 use Rattle.unit_core.specs.Submitted.{taken_at}
-use Rattle.unit_core.proofs.Lists.{by_test, filter_both}
+use Rattle.unit_core.proofs.Lists.{filter_both}
 use Rattle.fault_windows.specs.declared.Shown.{Shown}
 use Rattle.fault_windows.specs.declared.monitor.UnitFaults.{UnitFaults}
 use Rattle.fault_windows.specs.LateViolations.{requester_of, is_kept_violation, is_recorded, is_late}
 use Rattle.fault_windows.specs.Windows.{reads_windows, is_reading, window_of, is_in_window, window_bits, next_window, pending_at, turn_at, window_at, shown_at}
 use Rattle.fault_windows.specs.Monitors.{requester_at, IsPlace, shown_by}
 use Rattle.fault_windows.specs.Kept.{requesters_in, HasSeenUnit, HasSeenOn, violated, answered, rewritten, shown_window, IsShown}
-use Rattle.fault_windows.proofs.Tests.{same_passes, eqb_turned, and_true}
+use Rattle.fault_windows.proofs.Tests.{same_passes, eqb_turned}
 use Rattle.fault_windows.proofs.Bits.{with_bit}
 use Rattle.fault_windows.proofs.Places.{turn_next, after_shown}
 use Rattle.fault_windows.proofs.Records.{or_false, bit_after, recorded_next, IsElsewhere, some_reply}
@@ -114,7 +116,7 @@ or_yes true = refl
 or_yes false = refl
 
 with_late : (b c : Bool) → (c || b) ≡ (c || (b && not false))
-with_late b c = ap (λ x. c || x) (sym (and_true b))
+with_late b c = ap (λ x. c || x) (sym (and-true b))
 
 -- what is taken is one, by how the record's bit goes on
 answered_by : (h : History) (k s u : ℕ) (e : Event) (r : Reply) (x : UnitFaults) → is_reading h u k ≡ false → taken_at h k ≡ Some e → reply_at h k ≡ Some r → unit_of e ≡ Some u

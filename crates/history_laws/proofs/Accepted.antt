@@ -6,11 +6,11 @@ use Rattle.event_words.specs.declared.access.Access.{Access}
 use Rattle.event_words.specs.declared.event.Event.{Event}
 use Rattle.event_words.specs.declared.event.Event.TheVariants.{RegWrite, RegRead, Submit, Judge, Aim, Wide}
 use Rattle.event_words.specs.declared.reply.Reply.TheVariants as replies
+use Rattle.event_words.proofs.Cases.{by_test}
 use Rattle.unit_core.specs.Submissions.{SubmittedAccess, submitted}
 use Rattle.unit_core.specs.Submitted.{IsSubmission, taken_at}
 use Rattle.unit_core.specs.Units.{taken_as, wide_access, taken_step, event_step}
 use Rattle.unit_core.specs.Histories.{History, units_at, aims_at, event_at, reply_at}
-use Rattle.unit_core.proofs.Lists.{by_test}
 use Rattle.history_laws.specs.Tickets.{IsTaken}
 
 -- an event by which the caller submits an access on the unit

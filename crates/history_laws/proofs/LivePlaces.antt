@@ -15,13 +15,14 @@ use Rattle.event_words.specs.Events.{same_event}
 use Rattle.event_words.specs.Runs.{IsEventWord}
 use Rattle.event_words.specs.Records.{hits, is_by, events_by}
 use Rattle.event_words.specs.Registers.{has_bit}
+use Rattle.event_words.proofs.SameEvents.{same_event_is}
 use Rattle.policy_compiler.specs.declared.image.RegPair.{RegPair}
 use Rattle.unit_core.specs.Histories.{History, event_at, reply_at, history_of, logged_in}
 use Rattle.unit_core.specs.Updates.{ReadsDrained, IsDrainedReading}
 use Rattle.history_laws.proofs.WordHistories.{is_entry, has_entry}
 use Rattle.history_laws.proofs.QuietRecords.{IsNoLoggedWrite}
 use Rattle.history_laws.proofs.Writes.{writes, all_get, get_append, get_low}
-use Rattle.history_laws.proofs.WriteRecords.{event_of, same_read}
+use Rattle.history_laws.proofs.WriteRecords.{event_of}
 use Rattle.history_laws.proofs.LiveLists.{IsLive, events_logged}
 use Rattle.history_laws.proofs.PlanParts.{writes_in, writes_both, writes_by, of_one, own_before, NotDrained, loud}
 
@@ -69,7 +70,7 @@ drained_or_not h k = by (event_at h k) (reply_at h k) refl refl
     tested e r true p q t =
         let parts = and_parts (same_event (events.RegRead 0 1 12) e) (hits 1 0 r) t in
         let v = hit_value r parts.1 in
-        inl (record { value = v.0; event = p ∙ ap (λ f. Some f) (same_read 0 1 12 e parts.0); reply = q ∙ ap (λ s. Some s) v.1; idle = v.2 })
+        inl (record { value = v.0; event = p ∙ ap (λ f. Some f) (same_event_is (events.RegRead 0 1 12) e parts.0); reply = q ∙ ap (λ s. Some s) v.1; idle = v.2 })
     tested e r false p q t = inr (λ d.
         let first : Some e ≡ Some (events.RegRead 0 1 12) = sym p ∙ d.event in
         let second : Some r ≡ Some (replies.Value d.value) = sym q ∙ d.reply in

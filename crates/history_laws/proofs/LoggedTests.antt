@@ -3,7 +3,7 @@ use Rattle.std.proofs.Common.{◌≡◌, ℕ, suc, zero, Bool, true, false, ◌|
 use Rattle.std.specs.Prelude.{slice_get}
 use Rattle.std.specs.List.{list_any}
 use Rattle.std.proofs.lemmas.Bool.{cond_both, or_parts}
-use Rattle.unit_core.proofs.Lists.{by_test}
+use Rattle.event_words.proofs.Cases.{by_test}
 
 pub record IsFound {X : Type 0} (f : X → Bool) (xs : List X) : Type 0 where
   pub index : ℕ

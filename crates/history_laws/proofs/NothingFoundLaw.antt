@@ -1,6 +1,6 @@
 -- Units answer NoSuch exactly where a word finds nothing, and stay then.
-use Rattle.std.proofs.Common.{◌≡◌, ℕ, ◌+◌, ◌^◌, ◌<◌, ◌≤◌, ◌⊎◌, inl, inr, true, false, leb, cond, eqb, List, [], ◌∷◌, Option, Some, None, length, find, set, refl, sym, ap, ◌∙◌, subst, arith, ⊎_elim}
-use Rattle.std.specs.Prelude.{slice_get, IfSome, All}
+use Rattle.std.proofs.Common.{◌≡◌, ℕ, ◌+◌, ◌^◌, ◌<◌, ◌≤◌, ◌⊎◌, inl, inr, true, false, leb, eqb, List, [], ◌∷◌, Option, Some, None, length, find, set, refl, sym, ap, ◌∙◌, subst, arith, ⊎_elim}
+use Rattle.std.specs.Prelude.{slice_get, IfSome}
 use Rattle.std.specs.List.{AllByRecursion}
 use Rattle.std.proofs.lemmas.Bool.{cond_both, leb-true, leb-false, eqb-true, eq-eqb, and_parts, and_from}
 use Rattle.std.proofs.lemmas.List.{set-get_or}
@@ -16,7 +16,7 @@ use Rattle.unit_core.specs.declared.Submission.{Submission}
 use Rattle.unit_core.specs.Submissions.{is_item}
 use Rattle.unit_core.specs.Units.{UnitState, FabricState, aim_of, wide_access, unit_step, submit_step, step_at, taken_step, fabric_step, decoded_step}
 use Rattle.unit_core.proofs.Items.{submit_cases, judge_cases, all_found}
-use Rattle.history_laws.specs.NothingFound.{HasNoneOpen, FindsNothing, IsNoSuchExactly, LawNoSuch}
+use Rattle.history_laws.specs.NothingFound.{HasNoneOpen, FindsNothing, LawNoSuch}
 
 -- A step answers NoSuch, changes nothing and is such a one, or it answers otherwise and is none.
 abbrev Decided : {S : Type 0} → S → S × Reply → Type 0 → Type 0

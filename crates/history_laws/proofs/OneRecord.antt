@@ -1,7 +1,6 @@
 -- What one caller alone makes of its section is determined, event by event.
-use Rattle.std.proofs.Common.{◌≡◌, ℕ, zero, suc, ◌++◌, eqb, Bool, true, false, not, ◌&&◌, if◌then◌else◌, List, [], ◌∷◌, Option, Some, None, map, refl, sym, ap, subst, ◌∙◌}
+use Rattle.std.proofs.Common.{◌≡◌, ℕ, zero, suc, ◌++◌, Bool, true, false, not, ◌&&◌, if◌then◌else◌, List, [], ◌∷◌, Option, Some, None, map, refl, sym, ap, subst, ◌∙◌}
 use Rattle.std.specs.Prelude.{nat_lt}
-use Rattle.std.proofs.lemmas.Bool.{eqb-true}
 use Rattle.event_words.specs.declared.access.Access.{Access}
 use Rattle.event_words.specs.declared.event.Event.{Event}
 use Rattle.event_words.specs.declared.event.Event.TheVariants as events
@@ -11,80 +10,20 @@ use Rattle.event_words.specs.declared.record.SectionEnd.{SectionEnd}
 use Rattle.event_words.specs.declared.record.SectionEnd.TheVariants.{Done, Stopped}
 use Rattle.event_words.specs.declared.section.Command.{Command}
 use Rattle.event_words.specs.declared.section.Command.TheVariants.{Write, Read, Submit, Judge, Settle, Until, Through}
-use Rattle.event_words.specs.Word.{word_of, kind_code}
-use Rattle.event_words.specs.Events.{same_event, same_access}
+use Rattle.event_words.specs.Word.{word_of}
+use Rattle.event_words.specs.Events.{same_event}
 use Rattle.event_words.specs.Sections.{stage_units}
 use Rattle.event_words.specs.Valid.{is_narrow}
 use Rattle.event_words.specs.Records.{OpenSlot, take_event, judgements, polls, is_held, is_taken, is_aimed, hits, wide_event, take_event_after, take_submission, opened_slot, closed_by, one_piece, submit_piece, settled, settle_piece, until_piece, next_requester, stage_following, stage_judged, stage_piece, aimed_piece, one_stage, through_stages, through_piece, nothing_left, after_piece, end_of_commands, slot_of}
+use Rattle.event_words.proofs.SameEvents.{same_event_is}
+use Rattle.event_words.proofs.Cases.{by_test}
 
 -- ---- the same event has the same word
 
-and_both : (a b : Bool) → (a && b) ≡ true → (a ≡ true) × (b ≡ true)
-and_both true b h = (refl, h)
-and_both false b h = absurd (let n : false ≡ true = h in cc)
-
-same_access_word : (u c u' c' : ℕ) (a b : Access) → u ≡ u' → c ≡ c' → same_access a b ≡ true → word_of (events.Submit u c a) ≡ word_of (events.Submit u' c' b)
-same_access_word u c u' c' a b p q h =
-    let one = and_both (eqb a.rrid b.rrid) _ h in
-    let two = and_both (eqb (kind_code a.kind) (kind_code b.kind)) _ one.1 in
-    let three = and_both (eqb a.addr b.addr) _ two.1 in
-    let r : a.rrid ≡ b.rrid = eqb-true a.rrid b.rrid one.0 in
-    let k : kind_code a.kind ≡ kind_code b.kind = eqb-true (kind_code a.kind) (kind_code b.kind) two.0 in
-    let d : a.addr ≡ b.addr = eqb-true a.addr b.addr three.0 in
-    let l : a.len ≡ b.len = eqb-true a.len b.len three.1 in
-    cc
-
 same_word : (a b : Event) → same_event a b ≡ true → word_of a ≡ word_of b
-same_word (events.RegWrite u c i v) (events.RegWrite u' c' i' v') h =
-    let one = and_both (eqb u u') _ h in
-    let two = and_both (eqb c c') _ one.1 in
-    let three = and_both (eqb i i') _ two.1 in
-    let p : u ≡ u' = eqb-true u u' one.0 in
-    let q : c ≡ c' = eqb-true c c' two.0 in
-    let r : i ≡ i' = eqb-true i i' three.0 in
-    let s : v ≡ v' = eqb-true v v' three.1 in
-    cc
-same_word (events.RegRead u c i) (events.RegRead u' c' i') h =
-    let one = and_both (eqb u u') _ h in
-    let two = and_both (eqb c c') _ one.1 in
-    let p : u ≡ u' = eqb-true u u' one.0 in
-    let q : c ≡ c' = eqb-true c c' two.0 in
-    let r : i ≡ i' = eqb-true i i' two.1 in
-    cc
-same_word (events.Submit u c a) (events.Submit u' c' a') h =
-    let one = and_both (eqb u u') _ h in
-    let two = and_both (eqb c c') _ one.1 in
-    same_access_word u c u' c' a a' (eqb-true u u' one.0) (eqb-true c c' two.0) two.1
-same_word (events.Judge u c p) (events.Judge u' c' p') h =
-    let one = and_both (eqb u u') _ h in
-    let two = and_both (eqb c c') _ one.1 in
-    let p1 : u ≡ u' = eqb-true u u' one.0 in
-    let q : c ≡ c' = eqb-true c c' two.0 in
-    let r : p ≡ p' = eqb-true p p' two.1 in
-    cc
-same_word (events.Aim c a) (events.Aim c' a') h =
-    let one = and_both (eqb c c') _ h in
-    let p : c ≡ c' = eqb-true c c' one.0 in
-    let q : a ≡ a' = eqb-true a a' one.1 in
-    cc
-same_word (events.Wide u c s k n) (events.Wide u' c' s' k' n') h =
-    let one = and_both (eqb u u') _ h in
-    let two = and_both (eqb c c') _ one.1 in
-    let three = and_both (eqb s s') _ two.1 in
-    let four = and_both (eqb (kind_code k) (kind_code k')) _ three.1 in
-    let p : u ≡ u' = eqb-true u u' one.0 in
-    let q : c ≡ c' = eqb-true c c' two.0 in
-    let r : s ≡ s' = eqb-true s s' three.0 in
-    let t : kind_code k ≡ kind_code k' = eqb-true (kind_code k) (kind_code k') four.0 in
-    let l : n ≡ n' = eqb-true n n' four.1 in
-    cc
-same_word _ _ h = absurd (let n : false ≡ true = h in cc)
+same_word a b h = sym (ap word_of (same_event_is a b h))
 
 -- ---- small tools
-
-by_bool : {P : Type 0} (b : Bool) → (b ≡ true → P) → (b ≡ false → P) → P
-by_bool true p q = p refl
-by_bool false p q = q refl
 
 nothing : {A B : Type 0} {P : Type 0} (C : Option A → Option B) (b : B) → C None ≡ None → C None ≡ Some b → P
 nothing C b none h = absurd (let n : None ≡ Some b = sym none ∙ h in cc)
@@ -116,8 +55,8 @@ module _ {S : Type 0} (after : S → ℕ → ℕ → S) (reply : S → ℕ → �
   one_same C none e k s [] w a b h g go = nothing C a none h
   one_same C none e k s (x ∷ v) [] a b h g go = nothing C b none g
   one_same C none e k s (x ∷ v) (y ∷ w) a b h g go =
-      by_bool (same_event e x)
-      (λ p. by_bool (same_event e y)
+      by_test (same_event e x) _
+      (λ p. by_test (same_event e y) _
       (λ q.
       let words : word_of x ≡ word_of y = sym (same_word e x p) ∙ same_word e y q in
       let left = chosen C (same_event e x) true _ None (Some a) p h in
@@ -132,7 +71,7 @@ module _ {S : Type 0} (after : S → ℕ → ℕ → S) (reply : S → ℕ → �
   submission_same : (C : Option (LoggedEvent × List LoggedEvent) → Option SectionEnd) → C None ≡ None → (unit caller : ℕ) (access : Access) (k : ℕ) (s : S) (v w : List Event) (a b : SectionEnd)
       → C (take_submission unit caller access (entries k s v)) ≡ Some a → C (take_submission unit caller access (entries k s w)) ≡ Some b → ((j : ℕ) → AfterOne C a b j) → Same v w
   submission_same C none unit caller access k s v w a b h g go =
-      by_bool (is_narrow access)
+      by_test (is_narrow access) _
       (λ t. one_same C none (events.Submit unit caller access) k s v w a b (chosen C (is_narrow access) true _ _ (Some a) t h) (chosen C (is_narrow access) true _ _ (Some b) t g) (go k))
       (λ t. one_same (λ o. C (take_event_after (wide_event unit caller access) o)) none (events.Aim caller access.addr) k s v w a b (chosen C (is_narrow access) false _ _ (Some a) t h) (chosen C (is_narrow access) false _ _ (Some b) t g)
       (λ r x y s' v' w' p q. one_same C none (wide_event unit caller access) (suc k) s' v' w' a b p q (go (suc k))))
@@ -149,14 +88,14 @@ module _ {S : Type 0} (after : S → ℕ → ℕ → S) (reply : S → ℕ → �
   judged_same C none (suc n) e k s [] w a b h g go = nothing C a none h
   judged_same C none (suc n) e k s (x ∷ v) [] a b h g go = nothing C b none g
   judged_same C none (suc n) e k s (x ∷ v) (y ∷ w) a b h g go =
-      by_bool (same_event e x)
-      (λ p. by_bool (same_event e y)
+      by_test (same_event e x) _
+      (λ p. by_test (same_event e y) _
       (λ q.
       let words : word_of x ≡ word_of y = sym (same_word e x p) ∙ same_word e y q in
       let left = chosen C (not (same_event e x)) false None _ (Some a) (ap not p) h in
       let right = chosen C (not (same_event e y)) false None _ (Some b) (ap not q) g in
       let aligned = subst (λ (m : ℕ). C (if is_held (reply s k m) && nat_lt 0 n then judgements n e (entries (suc k) (after s k m) w) else Some (reply s k m, entries (suc k) (after s k m) w)) ≡ Some b) (sym words) right in
-      more_same x y v w words (by_bool (is_held (reply s k (word_of x)) && nat_lt 0 n)
+      more_same x y v w words (by_test (is_held (reply s k (word_of x)) && nat_lt 0 n) _
       (λ t. judged_same C none n e (suc k) (after s k (word_of x)) v w a b (chosen C _ true _ _ (Some a) t left) (chosen C _ true _ _ (Some b) t aligned) go)
       (λ t. go (reply s k (word_of x)) (suc k) (after s k (word_of x)) v w (chosen C _ false _ _ (Some a) t left) (chosen C _ false _ _ (Some b) t aligned))))
       (λ q. nothing C b none (chosen C (not (same_event e y)) true None _ (Some b) (ap not q) g)))
@@ -174,14 +113,14 @@ module _ {S : Type 0} (after : S → ℕ → ℕ → S) (reply : S → ℕ → �
   polled_same C none (suc n) e mask value k s [] w a b h g go = nothing C a none h
   polled_same C none (suc n) e mask value k s (x ∷ v) [] a b h g go = nothing C b none g
   polled_same C none (suc n) e mask value k s (x ∷ v) (y ∷ w) a b h g go =
-      by_bool (same_event e x)
-      (λ p. by_bool (same_event e y)
+      by_test (same_event e x) _
+      (λ p. by_test (same_event e y) _
       (λ q.
       let words : word_of x ≡ word_of y = sym (same_word e x p) ∙ same_word e y q in
       let left = chosen C (not (same_event e x)) false None _ (Some a) (ap not p) h in
       let right = chosen C (not (same_event e y)) false None _ (Some b) (ap not q) g in
       let aligned = subst (λ (m : ℕ). C (if not (hits mask value (reply s k m)) && nat_lt 0 n then polls n e mask value (entries (suc k) (after s k m) w) else Some (hits mask value (reply s k m), entries (suc k) (after s k m) w)) ≡ Some b) (sym words) right in
-      more_same x y v w words (by_bool (not (hits mask value (reply s k (word_of x))) && nat_lt 0 n)
+      more_same x y v w words (by_test (not (hits mask value (reply s k (word_of x))) && nat_lt 0 n) _
       (λ t. polled_same C none n e mask value (suc k) (after s k (word_of x)) v w a b (chosen C _ true _ _ (Some a) t left) (chosen C _ true _ _ (Some b) t aligned) go)
       (λ t. go (hits mask value (reply s k (word_of x))) (suc k) (after s k (word_of x)) v w (chosen C _ false _ _ (Some a) t left) (chosen C _ false _ _ (Some b) t aligned))))
       (λ q. nothing C b none (chosen C (not (same_event e y)) true None _ (Some b) (ap not q) g)))
@@ -206,7 +145,7 @@ module _ {S : Type 0} (after : S → ℕ → ℕ → S) (reply : S → ℕ → �
       → C (stage_piece caller max unit more (take_event e (entries k s v))) ≡ Some a → C (stage_piece caller max unit more (take_event e (entries k s w))) ≡ Some b → IsGoingOn C more a b → AfterStages C a b → Same v w
   stage_same C none caller max unit more e k s v w a b h g each go =
       one_same (λ o. C (stage_piece caller max unit more o)) none e k s v w a b h g
-      (λ r x y s' v' w' p q. by_bool (is_taken r)
+      (λ r x y s' v' w' p q. by_test (is_taken r) _
       (λ t. judged_same (λ o. C (stage_judged more o)) none max (events.Judge unit caller k) (suc k) s' v' w' a b (chosen C _ true _ _ (Some a) t p) (chosen C _ true _ _ (Some b) t q)
       (λ r2 k2 s2 v2 w2 p2 q2. following_same C more a b each go (next_requester r2) k2 s2 v2 w2 p2 q2))
       (λ t. go (suc k) s' v' w' (chosen C _ false _ _ (Some a) t p) (chosen C _ false _ _ (Some b) t q)))
@@ -214,10 +153,10 @@ module _ {S : Type 0} (after : S → ℕ → ℕ → S) (reply : S → ℕ → �
   one_stage_same : (C : Option (List LoggedEvent) → Option SectionEnd) → C None ≡ None → (caller max unit : ℕ) (access : Access) (more : ℕ → List LoggedEvent → Option (List LoggedEvent)) (k : ℕ) (s : S) (v w : List Event) (a b : SectionEnd)
       → C (one_stage caller max unit access more (entries k s v)) ≡ Some a → C (one_stage caller max unit access more (entries k s w)) ≡ Some b → IsGoingOn C more a b → AfterStages C a b → Same v w
   one_stage_same C none caller max unit access more k s v w a b h g each go =
-      by_bool (is_narrow access)
+      by_test (is_narrow access) _
       (λ t. stage_same C none caller max unit more (events.Submit unit caller access) k s v w a b (chosen C (is_narrow access) true _ _ (Some a) t h) (chosen C (is_narrow access) true _ _ (Some b) t g) each go)
       (λ t. one_same (λ o. C (aimed_piece caller max unit more (wide_event unit caller access) o)) none (events.Aim caller access.addr) k s v w a b (chosen C (is_narrow access) false _ _ (Some a) t h) (chosen C (is_narrow access) false _ _ (Some b) t g)
-      (λ r x y s' v' w' p q. by_bool (is_aimed r)
+      (λ r x y s' v' w' p q. by_test (is_aimed r) _
       (λ u. stage_same C none caller max unit more (wide_event unit caller access) (suc k) s' v' w' a b (chosen C _ true _ _ (Some a) u p) (chosen C _ true _ _ (Some b) u q) each go)
       (λ u. go (suc k) s' v' w' (chosen C _ false _ _ (Some a) u p) (chosen C _ false _ _ (Some b) u q))))
 

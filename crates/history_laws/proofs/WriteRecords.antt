@@ -1,7 +1,6 @@
 -- The records of sections of writes, and of a plan.
-use Rattle.std.proofs.Common.{◌≡◌, ℕ, zero, suc, ◌++◌, eqb, ltb, Bool, true, false, not, ◌&&◌, cond, List, [], ◌∷◌, Option, Some, None, map, refl, ap, ◌∙◌, ◌⊎◌, inl, inr}
+use Rattle.std.proofs.Common.{◌≡◌, ℕ, zero, suc, ◌++◌, ltb, Bool, true, false, not, ◌&&◌, cond, List, [], ◌∷◌, Option, Some, None, map, refl, ap, ◌∙◌, ◌⊎◌, inl, inr}
 use Rattle.std.specs.List.{AllByRecursion}
-use Rattle.std.proofs.lemmas.Bool.{eqb-true}
 use Rattle.event_words.specs.declared.event.Event.{Event}
 use Rattle.event_words.specs.declared.event.Event.TheVariants as events
 use Rattle.event_words.specs.declared.record.LoggedEvent.{LoggedEvent}
@@ -11,37 +10,12 @@ use Rattle.event_words.specs.declared.section.Command.{Command}
 use Rattle.event_words.specs.declared.section.Command.TheVariants.{Until}
 use Rattle.event_words.specs.Events.{same_event}
 use Rattle.event_words.specs.Records.{OpenSlot, take_event, polls, hits, one_piece, until_piece, nothing_left, after_piece, end_of_commands}
+use Rattle.event_words.proofs.SameEvents.{same_event_is}
 use Rattle.policy_compiler.specs.declared.image.RegPair.{RegPair}
 use Rattle.policy_compiler.specs.Images.{pair}
 use Rattle.policy_compiler.specs.Commands.{write_command}
 
 -- ---- one event
-
-and_both : (a b : Bool) → (a && b) ≡ true → (a ≡ true) × (b ≡ true)
-and_both true b h = (refl, h)
-and_both false b h = absurd (let n : false ≡ true = h in cc)
-
-pub same_write : (u c i v : ℕ) (e : Event) → same_event (events.RegWrite u c i v) e ≡ true → e ≡ events.RegWrite u c i v
-same_write u c i v (events.RegWrite u' c' i' v') h =
-    let one = and_both (eqb u u') _ h in
-    let two = and_both (eqb c c') _ one.1 in
-    let three = and_both (eqb i i') _ two.1 in
-    let p : u ≡ u' = eqb-true u u' one.0 in
-    let q : c ≡ c' = eqb-true c c' two.0 in
-    let r : i ≡ i' = eqb-true i i' three.0 in
-    let s : v ≡ v' = eqb-true v v' three.1 in
-    cc
-same_write u c i v _ h = absurd (let n : false ≡ true = h in cc)
-
-pub same_read : (u c i : ℕ) (e : Event) → same_event (events.RegRead u c i) e ≡ true → e ≡ events.RegRead u c i
-same_read u c i (events.RegRead u' c' i') h =
-    let one = and_both (eqb u u') _ h in
-    let two = and_both (eqb c c') _ one.1 in
-    let p : u ≡ u' = eqb-true u u' one.0 in
-    let q : c ≡ c' = eqb-true c c' two.0 in
-    let r : i ≡ i' = eqb-true i i' two.1 in
-    cc
-same_read u c i _ h = absurd (let n : false ≡ true = h in cc)
 
 none_some : {A : Type 0} {P : Type 0} (a : A) → None ≡ Some a → P
 none_some a h = absurd (let n : None ≡ Some a = h in cc)
@@ -76,7 +50,7 @@ writes_record c [] slots [] end h = refl
 writes_record c [] slots (x ∷ xs) end h = none_some end h
 writes_record c (w ∷ ws) slots xs end h =
     let s = one_first (write_by c w) (end_of_commands c (map write_command ws)) slots xs end h in
-    let head = same_write 0 c w.index w.value s.first.event s.event in
+    let head = same_event_is (events.RegWrite 0 c w.index w.value) s.first.event s.event in
     let tail = writes_record c ws slots s.rest end s.goes in
     ap (map event_of) s.is ∙ (ap (λ e. e ∷ map event_of s.rest) head ∙ ap (λ es. write_by c w ∷ es) tail)
 
@@ -92,7 +66,7 @@ writes_first : (c : ℕ) (ws : List RegPair) (cs : List Command) (slots : List (
 writes_first c [] cs slots xs end h = record { first = []; rest = xs; is = refl; events = refl; goes = h }
 writes_first c (w ∷ ws) cs slots xs end h =
     let s = one_first (write_by c w) (end_of_commands c (map write_command ws ++ cs)) slots xs end h in
-    let head = same_write 0 c w.index w.value s.first.event s.event in
+    let head = same_event_is (events.RegWrite 0 c w.index w.value) s.first.event s.event in
     let tail = writes_first c ws cs slots s.rest end s.goes in
     record {
       first = s.first ∷ tail.first;
@@ -139,10 +113,10 @@ polled (suc n) go slots (x ∷ xs) end h = by (same_event (events.RegRead 0 1 12
     by : (s hit more : Bool) → (after_piece go (until_piece slots (polls n (events.RegRead 0 1 12) 1 0 xs)) ≡ Some end → IsPolled (go slots) xs end) → same_event (events.RegRead 0 1 12) x.event ≡ s → hits 1 0 x.reply ≡ hit
         → after_piece go (until_piece slots (cond (not s) None (cond (not hit && more) (polls n (events.RegRead 0 1 12) 1 0 xs) (Some (hit, xs))))) ≡ Some end → IsPolled (go slots) (x ∷ xs) end
     by false hit more again p q h = none_some end h
-    by true true more again p q h = after_last true q (same_read 0 1 12 x.event p) h
-    by true false false again p q h = after_last false q (same_read 0 1 12 x.event p) h
+    by true true more again p q h = after_last true q (same_event_is (events.RegRead 0 1 12) x.event p) h
+    by true false false again p q h = after_last false q (same_event_is (events.RegRead 0 1 12) x.event p) h
     by true false true again p q h =
-        let e = same_read 0 1 12 x.event p in
+        let e = same_event_is (events.RegRead 0 1 12) x.event p in
         let r = again h in
         record {
           reads = x ∷ r.reads;

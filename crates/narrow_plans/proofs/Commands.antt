@@ -8,6 +8,7 @@ use Rattle.event_words.specs.declared.section.Command.TheVariants.{Write}
 use Rattle.event_words.specs.Registers.{index_count}
 use Rattle.event_words.specs.Valid.{IsValidShape}
 use Rattle.event_words.specs.Sections.{is_submit, IsMax, AreValidCommands, IsValidSection}
+use Rattle.event_words.proofs.Ranges.{range_more}
 use Rattle.policy_compiler.specs.declared.image.RegPair.{RegPair}
 use Rattle.policy_compiler.specs.Policies.{PolicyOf, IsPolicy}
 use Rattle.policy_compiler.specs.Needs.{need_refusal}
@@ -20,13 +21,12 @@ use Rattle.narrow_plans.specs.BetweenStates.{table_write, table_writes, between_
 use Rattle.narrow_plans.specs.Unaffected.{is_unaffected, is_affected, affected}
 use Rattle.narrow_plans.specs.NarrowPlans.{stall_command, narrow_commands}
 use Rattle.narrow_plans.specs.Stalls.{changes_view, stalls}
-use Rattle.narrow_plans.proofs.Walks.{range_more}
 
 -- ---- one requester more
 
 stalls_more : (old : ImageOf) (ws : List RegPair) (s : ℕ) → stalls old ws (s + 1) ≡ stalls old ws s ++ map stall_command (filter (changes_view old ws) (s ∷ []))
 stalls_more old ws s =
-    ap (λ is. map stall_command (filter (changes_view old ws) is)) (range_more s)
+    ap (λ is. map stall_command (filter (changes_view old ws) is)) (range_more 0 s s (omega arith))
     ∙ (ap (map stall_command) (filter-append (changes_view old ws) (range_with_len 0 s) (s ∷ []))
     ∙ map-append stall_command (filter (changes_view old ws) (range_with_len 0 s)) (filter (changes_view old ws) (s ∷ [])))
 

@@ -5,10 +5,10 @@ use Rattle.std.proofs.lemmas.Nat.{pow_pos}
 use Rattle.std.proofs.lemmas.Bool.Decides.{nat_tests}
 use Rattle.event_words.specs.Registers.{Registers}
 use Rattle.event_words.specs.Entries.{word_address, mode_of, bottom_of, is_byte_of, is_byte_of_mode}
+use Rattle.event_words.proofs.Cases.{by_test}
 use Rattle.entry_ranges.specs.declared.ByteRange.{ByteRange}
 use Rattle.entry_ranges.specs.Ranges.{HoldsBytes, is_between}
 use Rattle.entry_ranges.proofs.Words.{block_bytes}
-use Rattle.mdcfg_formats.proofs.Searches.{by_test}
 use Rattle.narrow_plans.specs.Views.{range_up_to, range_by_mode, entry_range}
 
 abbrev is_byte_by : Registers → ℕ → ℕ → ℕ → Bool

@@ -19,8 +19,9 @@ use Rattle.event_words.proofs.Indexes.{register_at-tells}
 use Rattle.event_words.specs.Entries.{word_address, bottom_of}
 use Rattle.event_words.specs.Domains.{bound_of, is_bounded_by, owner_of, is_in_table, is_enabled_in, is_readable_in, is_writable_in, has_first_permission, has_second_permission, is_associated, by_kind, domain_grants}
 use Rattle.event_words.specs.Decisions.{owned_by, is_entry_of, entry_grants, prio_count}
+use Rattle.event_words.proofs.Cases.{by_test}
 use Rattle.entry_ranges.specs.declared.ByteRange.{ByteRange}
-use Rattle.mdcfg_formats.proofs.Searches.{by_test, find_below}
+use Rattle.mdcfg_formats.proofs.Searches.{find_below}
 use Rattle.narrow_plans.specs.Views.{EntryView, entry_range, entry_view, seen_entry, view_of}
 use Rattle.narrow_plans.specs.Seen.{is_own, IsEntryPart, LeavesView}
 use Rattle.narrow_plans.proofs.Walks.{unseen}

@@ -2,6 +2,7 @@
 use Rattle.std.proofs.Common.{◌≡◌, ℕ, suc, zero, ◌+◌, ◌≤◌, Bool, true, false, not, ◌&&◌, ◌||◌, ltb, List, [], ◌∷◌, Option, None, Some, if◌then◌else◌, map, find, filter, arith, refl, sym, ap, ◌∙◌}
 use Rattle.std.specs.List.{list_any, list_all, range_with_len, filter_map, cons_option}
 use Rattle.std.specs.Option.{option_map}
+use Rattle.std.proofs.Math.Bool.{and-false}
 use Rattle.event_words.specs.declared.shape.Shape.{Shape}
 use Rattle.event_words.specs.declared.access.Access.{Access}
 use Rattle.event_words.specs.declared.access.Kind.{Kind}
@@ -14,9 +15,9 @@ use Rattle.event_words.specs.Entries.{is_byte_of, bytes_of, covers}
 use Rattle.event_words.specs.Decisions.{is_entry_of, entry_grants, prio_count, entries, is_touching, is_covering, decide_by_hit, by_covering, covering, violation, illegal, decision}
 use Rattle.event_words.specs.declared.reply.Decision.TheVariants.{Allowed}
 use Rattle.event_words.specs.Word.{kind_code}
+use Rattle.event_words.proofs.Cases.{by_test}
 use Rattle.entry_ranges.specs.declared.ByteRange.{ByteRange}
 use Rattle.entry_ranges.specs.Ranges.{HoldsBytes, is_between}
-use Rattle.mdcfg_formats.proofs.Searches.{by_test}
 use Rattle.policy_compiler.specs.Laws.{kind_of}
 use Rattle.narrow_plans.specs.Views.{EntryView, entry_range, entry_view, seen_entry, view_of}
 use Rattle.narrow_plans.specs.Laws.{SeeAlike}
@@ -72,14 +73,10 @@ abbrev Shows : Registers → Access → ℕ → Option EntryView → Type 0
 Shows r a j None = Misses r a j
 Shows r a j (Some e) = Sees r a j e
 
-and_false : (b : Bool) → (b && false) ≡ false
-and_false true = refl
-and_false false = refl
-
 foreign : (r : Registers) (a : Access) (j : ℕ) → is_entry_of r a.rrid j ≡ false → Misses r a j
 foreign r a j t = record {
-  touching = rw t (and_false (ltb j (prio_count r)));
-  covering = rw t (and_false (not (ltb j (prio_count r))));
+  touching = rw t (and-false (ltb j (prio_count r)));
+  covering = rw t (and-false (not (ltb j (prio_count r))));
 }
 
 none_any : (p : ℕ → Bool) (xs : List ℕ) → ((x : ℕ) → p x ≡ false) → list_any p xs ≡ false
@@ -92,8 +89,8 @@ none_all p a (suc n) l none = rw (none a) refl
 
 empty : (r : Registers) (a : Access) (j : ℕ) → IsValidAccess a → ((x : ℕ) → is_byte_of r j x ≡ false) → Misses r a j
 empty r a j valid none = record {
-  touching = rw (none_any (is_byte_of r j) (bytes_of a) none, and_false (is_entry_of r a.rrid j)) (and_false (ltb j (prio_count r)));
-  covering = rw (none_all (is_byte_of r j) a.addr a.len valid.shortest none, and_false (is_entry_of r a.rrid j)) (and_false (not (ltb j (prio_count r))));
+  touching = rw (none_any (is_byte_of r j) (bytes_of a) none, and-false (is_entry_of r a.rrid j)) (and-false (ltb j (prio_count r)));
+  covering = rw (none_all (is_byte_of r j) a.addr a.len valid.shortest none, and-false (is_entry_of r a.rrid j)) (and-false (not (ltb j (prio_count r))));
 }
 
 grants_kind : (r : Registers) (s j : ℕ) (kind : Kind) (bytes : ByteRange) → entry_grants r s kind j ≡ granted_by kind (entry_view r s j bytes)

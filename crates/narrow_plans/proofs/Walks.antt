@@ -1,5 +1,5 @@
 -- A walk over a requester's domains sees what a look at each entry sees.
-use Rattle.std.proofs.Common.{◌≡◌, ℕ, suc, zero, ◌+◌, ◌-◌, ◌%◌, ◌<◌, ◌≤◌, Bool, true, false, ◌&&◌, ltb, [], ◌∷◌, ◌++◌, Option, Some, None, arith, refl, sym, ap, ◌∙◌, subst}
+use Rattle.std.proofs.Common.{◌≡◌, ℕ, suc, zero, ◌+◌, ◌-◌, ◌%◌, ◌<◌, ◌≤◌, Bool, true, false, ◌&&◌, ltb, [], ◌∷◌, ◌++◌, Option, Some, None, arith, refl, sym, ap, ◌∙◌}
 use Rattle.std.specs.List.{range_with_len, filter_map, cons_option}
 use Rattle.std.specs.Option.{option_map}
 use Rattle.std.proofs.lemmas.List.{append-nil}
@@ -14,6 +14,7 @@ use Rattle.event_words.specs.Word.{kind_code}
 use Rattle.event_words.specs.Domains.{owner_of, is_associated, domain_grants}
 use Rattle.event_words.specs.Entries.{is_byte_of}
 use Rattle.event_words.specs.Decisions.{is_entry_of, entry_grants}
+use Rattle.event_words.proofs.Ranges.{range_more}
 use Rattle.entry_ranges.specs.declared.ByteRange.{ByteRange}
 use Rattle.entry_ranges.specs.Ranges.{HoldsBytes, is_between}
 use Rattle.mdcfg_formats.proofs.Runs.{IsStart, IsRun, run_none}
@@ -70,21 +71,9 @@ unseen r s j t = rw t refl
 
 -- ---- one more entry
 
-range_suc : (a n : ℕ) → range_with_len a (suc n) ≡ range_with_len a n ++ (a + n) ∷ []
-range_suc a zero = ap (λ x. x ∷ []) (let e : a ≡ a + 0 = omega arith in e)
-range_suc a (suc n) =
-    let e : (a + 1) + n ≡ a + suc n = omega arith in
-    ap (λ xs. a ∷ xs) (subst (λ k. range_with_len (a + 1) (suc n) ≡ range_with_len (a + 1) n ++ k ∷ []) e (range_suc (a + 1) n))
-
-pub range_more : (n : ℕ) → range_with_len 0 (n + 1) ≡ range_with_len 0 n ++ n ∷ []
-range_more n =
-    let e : 0 + n ≡ n = omega arith in
-    let f : suc n ≡ n + 1 = omega arith in
-    subst (λ k. range_with_len 0 k ≡ range_with_len 0 n ++ n ∷ []) f (subst (λ k. range_with_len 0 (suc n) ≡ range_with_len 0 n ++ k ∷ []) e (range_suc 0 n))
-
 seen_more : (r : Registers) (s n : ℕ) → seen_below r s (n + 1) ≡ seen_below r s n ++ cons_option (seen_entry r s n) []
 seen_more r s n =
-    ap (filter_map (seen_entry r s)) (range_more n) ∙ filter_map-append (seen_entry r s) (range_with_len 0 n) (n ∷ [])
+    ap (filter_map (seen_entry r s)) (range_more 0 n n (omega arith)) ∙ filter_map-append (seen_entry r s) (range_with_len 0 n) (n ∷ [])
 
 pub seen_taken : (r : Registers) (s n : ℕ) (e : EntryView) → seen_entry r s n ≡ Some e → seen_below r s (n + 1) ≡ seen_below r s n ++ e ∷ []
 seen_taken r s n e t = rw t at (seen_more r s n)

@@ -1,7 +1,6 @@
 -- Whatever has come, the rest of a record can be completed: each event that is left is answered NoSuch.
-use Rattle.std.proofs.Common.{◌≡◌, ◌++◌, eqb, ◌&&◌, nat_lt, if◌then◌else◌, ℕ, zero, suc, ◌≤◌, Bool, true, false, not, List, [], ◌∷◌, Option, Some, None, IsSome, drop, refl, sym, ap, subst, ◌∙◌, arith}
+use Rattle.std.proofs.Common.{◌≡◌, ◌++◌, ◌&&◌, nat_lt, if◌then◌else◌, ℕ, zero, suc, ◌≤◌, Bool, true, false, not, List, [], ◌∷◌, Option, Some, None, IsSome, drop, refl, sym, ap, subst, ◌∙◌, arith}
 use Rattle.std.specs.List.{AllByRecursion}
-use Rattle.std.proofs.lemmas.Bool.Decides.{nat_tests}
 use Rattle.event_words.specs.declared.access.Access.{Access}
 use Rattle.event_words.specs.declared.event.Event.{Event}
 use Rattle.event_words.specs.declared.event.Event.TheVariants as events
@@ -11,34 +10,15 @@ use Rattle.event_words.specs.declared.record.LoggedEvent.{LoggedEvent}
 use Rattle.event_words.specs.declared.record.SectionEnd.{SectionEnd}
 use Rattle.event_words.specs.declared.section.Command.{Command}
 use Rattle.event_words.specs.declared.section.Command.TheVariants.{Write, Read, Submit, Judge, Settle, Until, Through}
-use Rattle.event_words.specs.Word.{kind_code}
-use Rattle.event_words.specs.Events.{same_event}
 use Rattle.event_words.specs.Sections.{stage_units}
 use Rattle.event_words.specs.Valid.{is_narrow}
 use Rattle.event_words.specs.Records.{OpenSlot, take_event, judgements, polls, is_held, is_taken, hits, opened_slot, closed_by, one_piece, submit_piece, settled, settle_piece, until_piece, next_requester, stage_following, stage_judged, stage_piece, aimed_piece, one_stage, take_event_after, wide_event, take_submission, is_aimed, through_stages, through_piece, after_piece, end_of_commands, slot_of}
+use Rattle.event_words.proofs.SameEvents.{same_event_self}
 use Rattle.section_cursor.specs.declared.ahead.Chain.{Chain}
 use Rattle.section_cursor.specs.declared.ahead.Part.{Part}
 use Rattle.section_cursor.specs.declared.ahead.Part.TheVariants.{Alone, Submission, Aiming, Judging, Polling, StageAiming, Stage, StageJudging}
 use Rattle.section_cursor.specs.Cursors.{end_after, stages_on, HasTries, PartHasTries}
 use Rattle.section_cursor.proofs.Beginnings.{positive}
-
--- ---- an event is itself
-
-same_number : (n : ℕ) → eqb n n ≡ true
-same_number n = grind (arith, nat_tests)
-
-all_true : (a b : Bool) → a ≡ true → b ≡ true → (a && b) ≡ true
-all_true a b p q = rw (p, q) refl
-
-pub same_self : (e : Event) → same_event e e ≡ true
-same_self (events.RegWrite u c i v) = all_true _ _ (same_number u) (all_true _ _ (same_number c) (all_true _ _ (same_number i) (same_number v)))
-same_self (events.RegRead u c i) = all_true _ _ (same_number u) (all_true _ _ (same_number c) (same_number i))
-same_self (events.Submit u c a) =
-    all_true _ _ (same_number u) (all_true _ _ (same_number c) (all_true _ _ (same_number a.rrid) (all_true _ _ (same_number (kind_code a.kind)) (all_true _ _ (same_number a.addr) (same_number a.len)))))
-same_self (events.Aim c a) = all_true _ _ (same_number c) (same_number a)
-same_self (events.Wide u c s k n) =
-    all_true _ _ (same_number u) (all_true _ _ (same_number c) (all_true _ _ (same_number s) (all_true _ _ (same_number (kind_code k)) (same_number n))))
-same_self (events.Judge u c p) = all_true _ _ (same_number u) (all_true _ _ (same_number c) (same_number p))
 
 -- ---- events that are answered NoSuch
 
@@ -52,13 +32,13 @@ abbrev pub Completes : (List LoggedEvent → Option SectionEnd) → Type 0
 Completes f = (xs : List LoggedEvent) × IsSome (f xs)
 
 first_self : (e : Event) (xs : List LoggedEvent) → take_event e (answer e ∷ xs) ≡ Some (pair (answer e) xs)
-first_self e xs = rw same_self refl
+first_self e xs = rw same_event_self refl
 
 judged_self : (n : ℕ) (e : Event) (xs : List LoggedEvent) → judgements (suc n) e (answer e ∷ xs) ≡ Some (pair replies.NoSuch xs)
-judged_self n e xs = rw same_self refl
+judged_self n e xs = rw same_event_self refl
 
 polls_self : (n : ℕ) (e : Event) (mask value : ℕ) (xs : List LoggedEvent) → polls (suc n) e mask value (answer e ∷ xs) ≡ (if nat_lt 0 n then polls n e mask value xs else Some (pair false xs))
-polls_self n e mask value xs = rw same_self refl
+polls_self n e mask value xs = rw same_event_self refl
 
 -- reads that all miss
 missed : (n : ℕ) (e : Event) (mask value : ℕ) → (xs : List LoggedEvent) × (polls (suc n) e mask value xs ≡ Some (pair false []))

@@ -4,11 +4,12 @@ use Rattle.std.specs.List.{range_with_len, list_any}
 use Rattle.std.specs.Int.{bit_at}
 use Rattle.std.proofs.lemmas.Bool.Decides.{eqb_tells, nat_tests}
 use Rattle.std.proofs.lemmas.Nat.Bits.{bit_at_and, bit_at-lt, bit_at-suc, bit_at-zero, same_from_bits}
+use Rattle.std.proofs.Math.Bool.{and-false}
 use Rattle.event_words.specs.Registers.{Registers, has_bit}
 use Rattle.event_words.specs.Domains.{is_known, is_in_table, is_associated}
 use Rattle.event_words.specs.Stalls.{is_selected_domain, is_selected}
+use Rattle.event_words.proofs.Cases.{by_test, by_less}
 use Rattle.stall_control.specs.Selections.{is_among}
-use Rattle.stall_control.proofs.Waits.{by_test}
 
 is_one : (k : ℕ) → (k == 1) ≡ true → k ≡ 1
 is_one k e = elim (eqb_tells k 1) [
@@ -33,10 +34,6 @@ zero_is k e = elim (eqb_tells k 1) [
   | inl q ↦ absurd (let z = q.1 in omega arith)
   | inr q ↦ q.0
 ]
-
-and_false : (b : Bool) → (b && false) ≡ false
-and_false true = refl
-and_false false = refl
 
 both_bits : (a b m : ℕ) → has_bit (bit_and a b) m ≡ (has_bit a m && has_bit b m)
 both_bits a b m =
@@ -72,9 +69,6 @@ none_in p a (suc n) m e l h = elim (eqb_tells a m) [
   | inr q ↦ none_in p (a + 1) n m (or_rest (p a) (list_any p (range_with_len (a + 1) n)) e) (let z = q.1 in omega arith) (omega arith)
 ]
 
-by_less : (m n : ℕ) (P : Type 0) → (m < n → P) → (n ≤ m → P) → P
-by_less m n P f g = by_test (ltb m n) P (λ t. f (grind (arith, nat_tests))) (λ t. g (grind (arith, nat_tests)))
-
 some_bit : (x n : ℕ) → ((m : ℕ) → n ≤ m → bit_at x m ≡ 0) → not (x == 0) ≡ list_any (has_bit x) (range_with_len 0 n)
 some_bit x n h = by_test (list_any (has_bit x) (range_with_len 0 n)) _
     (λ t. elim (eqb_tells x 0) [
@@ -102,7 +96,7 @@ among_by r domains s mask h =
     both_bits domains mask m ∙ ap (λ k. has_bit domains m && k) (h m))
   where
     past : (r : Registers) (s m n : ℕ) → n ≤ m → n ≡ r.shape.domains → is_associated r s m ≡ false
-    past r s m n l e = let z : ltb m r.shape.domains ≡ false = grind (arith, nat_tests) in ap (λ k. is_known r s && (k && is_in_table r s m)) z ∙ and_false (is_known r s)
+    past r s m n l e = let z : ltb m r.shape.domains ≡ false = grind (arith, nat_tests) in ap (λ k. is_known r s && (k && is_in_table r s m)) z ∙ and-false (is_known r s)
 
 -- the mask of a write of MDSTALL has the domains that it selects
 pub selection_bit : (r : Registers) (value pair m : ℕ) → has_bit pair (m + 1) ≡ is_selected_domain r value m → has_bit (pair / 2) m ≡ is_selected_domain r value m

@@ -1,21 +1,15 @@
 -- How many requesters are stalled with something in flight, as one of them changes.
-use Rattle.std.proofs.Common.{◌≡◌, ◌≢◌, ℕ, suc, zero, ◌+◌, ◌<◌, ◌≤◌, Bool, true, false, not, ◌&&◌, ◌||◌, ◌==◌, ltb, ◌/◌, ◌%◌, ◌^◌, replicate, List, [], ◌∷◌, length, ◌++◌, count_by, set, take, arith, refl, sym, ap, ◌∙◌, subst, inl, inr, get_or-set_other, length-set}
+use Rattle.std.proofs.Common.{◌≡◌, ◌≢◌, ℕ, suc, zero, ◌+◌, ◌<◌, ◌≤◌, Bool, true, false, not, ◌&&◌, ◌||◌, ◌==◌, ◌/◌, ◌%◌, ◌^◌, replicate, List, [], ◌∷◌, length, ◌++◌, count_by, set, take, arith, refl, sym, ap, ◌∙◌, subst, inl, inr, get_or-set_other, length-set}
 use Rattle.std.specs.List.{range_with_len, list_any}
 use Rattle.std.proofs.lemmas.List.{take-replicate, length-take-le}
 use Rattle.std.proofs.lemmas.List.Sums.{sum_by-cons}
-use Rattle.std.proofs.lemmas.Bool.Decides.{eqb_tells, nat_tests}
+use Rattle.std.proofs.lemmas.Bool.Decides.{eqb_tells}
 use Rattle.event_words.specs.Stalls.{flag_of, flags_after_rridscp}
+use Rattle.event_words.proofs.Cases.{by_test, by_less}
 use Rattle.stall_control.specs.Counts.{count_in, is_busy_at, is_busy_with, busy_count, one}
-
-pub by_test : (b : Bool) (P : Type 0) → (b ≡ true → P) → (b ≡ false → P) → P
-by_test true P f g = f refl
-by_test false P f g = g refl
 
 count_cons : (p : ℕ → Bool) (x : ℕ) (xs : List ℕ) → count_by p (x ∷ xs) ≡ one (p x) + count_by p xs
 count_cons p x xs = sum_by-cons (λ y. one (p y)) x xs
-
-by_less : (r n : ℕ) (P : Type 0) → (r < n → P) → (n ≤ r → P) → P
-by_less r n P f g = by_test (ltb r n) P (λ t. f (grind (arith, nat_tests))) (λ t. g (grind (arith, nat_tests)))
 
 -- ---- one changes
 

@@ -4,11 +4,11 @@ use Rattle.std.proofs.lemmas.Bool.Decides.{nat_tests}
 use Rattle.event_words.specs.declared.access.Access.{Access}
 use Rattle.event_words.specs.declared.reply.Denial.{Denial}
 use Rattle.event_words.specs.declared.register.Register.{Register}
-use Rattle.event_words.specs.declared.register.Register.TheVariants.{ErrCfg}
 use Rattle.event_words.specs.Registers.{Registers, write_at, register_at, has_bit}
 use Rattle.event_words.specs.Guards.{guarded_bits, reg}
 use Rattle.event_words.specs.Denials.{recorded}
 use Rattle.event_words.specs.Stalls.{flag_of, flags_after, flags_after_rridscp, differs, is_selected}
+use Rattle.event_words.proofs.Cases.{by_test}
 use Rattle.stall_queue.specs.declared.QueuedSubmission.{QueuedSubmission}
 use Rattle.stall_queue.specs.Queues.{is_of}
 use Rattle.std.proofs.lemmas.List.FromFn.{length-map-range_with_len}
@@ -20,7 +20,6 @@ use Rattle.unit_core.specs.Places.{IsHeldBack}
 use Rattle.unit_core.specs.Units.{read_value, after_write}
 use Rattle.unit_core.specs.Parts.{part_read, IsHeld, IsWritten, stays_until, moved_for}
 use Rattle.unit_core.specs.Places.{items_of, waiting_of, Agrees, state_with, state_of}
-use Rattle.unit_core.proofs.Lists.{by_test}
 use Rattle.unit_core.proofs.Busy.{flag_known, busy_same}
 use Rattle.unit_core.proofs.SubmissionLists.{items_released, waiting_released, flying_stalled, flying_moved}
 use Rattle.unit_core.proofs.HeldBack.{all_released}

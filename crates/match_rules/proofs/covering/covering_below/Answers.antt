@@ -1,6 +1,6 @@
 use Rattle.std.proofs.Common.{sym, ◌∙◌}
 use Rattle.event_words.specs.Decisions.{is_covering}
-use Rattle.match_rules.proofs.Scans.{filter_taken, filter_left}
+use Rattle.event_words.proofs.Ranges.{filter_taken, filter_left}
 use Rattle.match_rules.proofs.covering.covering_below.Goals.{then-is_covering, else-is_covering}
 use Rattle.match_rules.proofs.covering.covering_below.Goals as goal
 

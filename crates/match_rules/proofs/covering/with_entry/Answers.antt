@@ -1,7 +1,8 @@
 use Rattle.std.proofs.Common.{◌+◌}
 use Rattle.event_words.specs.Word.{kind_code}
 use Rattle.event_words.specs.Decisions.{entry_grants, has_cfg_bit}
-use Rattle.match_rules.proofs.Scans.{first_more, any_more, all_more}
+use Rattle.event_words.proofs.Ranges.{any_more, all_more}
+use Rattle.match_rules.proofs.Scans.{first_more}
 use Rattle.match_rules.proofs.covering.with_entry.Goals as goal
 
 pub returns : goal.returns
