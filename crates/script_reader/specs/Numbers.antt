@@ -19,6 +19,11 @@ numeral_after base n (b ∷ bs) = option_and_then (λ d. numeral_after base (n *
 abbrev pub numeral_of : ℕ → ℕ → List ℕ → Option ℕ
 numeral_of base most ds = if nat_le 1 (length ds) && nat_le (length ds) most then numeral_after base 0 ds else None
 
+-- a number below a limit
+abbrev pub below : ℕ → Option ℕ → Option ℕ
+below limit None = None
+below limit (Some n) = if nat_lt n limit then Some n else None
+
 -- 0x stands first
 abbrev pub begins_hex : List ℕ → Bool
 begins_hex word = nat_le 2 (length word) && (slice_index word 0 == 48 && slice_index word 1 == 120)

@@ -20,6 +20,7 @@ mod update_text;
 mod words;
 
 pub use live::read_lanes;
+pub use number::decimal_number;
 pub use print::{NoMemory, print_lane, print_script};
 pub use report_text::{ReportText, read_report_text};
 pub use script::{Script, ScriptError, read_script};

@@ -1,7 +1,7 @@
 // The number that a word writes.
 ghost use Rattle.std.specs.Prelude.{◌≡◌, length, ◌^◌, ◌≤◌, ◌<◌, ◌+◌, ◌*◌, min, Some, IfOk, IfSome};
 ghost use Rattle.std.specs.Option.{option_map};
-ghost use Rattle.script_reader.specs.Numbers.{digit_of, numeral_after, numeral_of, number_of, number_at, ranged, fitting, held};
+ghost use Rattle.script_reader.specs.Numbers.{digit_of, numeral_after, numeral_of, number_of, number_at, ranged, fitting, held, below};
 
 use crate::step::{NOT_A_NUMBER, OUT_OF_RANGE};
 
@@ -88,6 +88,18 @@ fn numeral(base: u64, most: usize, digits: &[u8]) -> Option<Option<u64>>
         Some(number) => Some(Some(number)),
         None => None,
     }
+}
+
+/// The number that 1 to `most` decimal digits write, where it is at most `greatest`.
+pub fn decimal_number(most: usize, greatest: u64, digits: &[u8]) -> Option<u64>
+    ensures value { result ≡ below (greatest + 1) (numeral_of 10 most digits.now) }
+    ensures within { IfSome result (λ n. n ≤ greatest) }
+{
+    let number = numeral(10, most, digits)??;
+    if number > greatest {
+        return None;
+    }
+    Some(number)
 }
 
 #[inline(always)]
