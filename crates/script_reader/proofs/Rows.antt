@@ -27,116 +27,74 @@ bad_of (Err bad) = Some (bad.line, bad.code)
 abbrev fault_of : List (List ℕ) → Option (ℕ × ℕ)
 fault_of given = bad_of (script_at (text_of ((codes "iopmp 1" ∷ four_requesters ∷ codes "boot" ∷ []) ++ given ++ (codes "end" ∷ []))))
 
--- lines of register accesses
-bad_registers :
-    map fault_of
-    ((codes "w 0 0x8" ∷ [])
-    ∷ (codes "w 0 0x9 0x1" ∷ [])
-    ∷ (codes "w 0 0x8 0x100000000" ∷ [])
-    ∷ (codes "w 1 0x8 0x1" ∷ [])
-    ∷ (codes "q 0" ∷ [])
-    ∷ [])
-    ≡ Some (4, 4) ∷ Some (4, 6) ∷ Some (4, 6) ∷ Some (4, 11) ∷ Some (4, 3) ∷ []
-unfolding digit_of number_of number_at ranged has_keys translation_at shape_at unit_line is_name slot_at with_name unit_at index_at kind_at access_at stage_at stages_at write_at read_at submit_at judge_at settle_at until_at through_at command_at head_step unit_step boot_step end_step lane_step submit_step command_step units_step section_step words_step line_step
-bad_registers = refl
+-- lines after `boot`, and the fault of their script
+abbrev bad_rows : List (List (List ℕ) × Option (ℕ × ℕ))
+bad_rows =
+    -- lines of register accesses
+    (codes "w 0 0x8" ∷ [], Some (4, 4))
+    ∷ (codes "w 0 0x9 0x1" ∷ [], Some (4, 6))
+    ∷ (codes "w 0 0x8 0x100000000" ∷ [], Some (4, 6))
+    ∷ (codes "w 1 0x8 0x1" ∷ [], Some (4, 11))
+    ∷ (codes "q 0" ∷ [], Some (4, 3))
+    -- numbers
+    ∷ (codes "w 0 0x8 18446744073709551616" ∷ [], Some (4, 6))
+    ∷ (codes "w 0 000000000000000000008 1" ∷ [], Some (4, 5))
+    ∷ (codes "w 0 0x 0x1" ∷ [], Some (4, 5))
+    ∷ (codes "w 4 0x8 0x1" ∷ [], Some (4, 11))
+    ∷ (codes "w 18446744073709551616 0x8 0x1" ∷ [], Some (4, 6))
+    -- submissions
+    ∷ (codes "t 0 64 r 0x0 1 as a" ∷ [], Some (4, 6))
+    ∷ (codes "t 0 3 q 0x0 1 as a" ∷ [], Some (4, 7))
+    ∷ (codes "t 0 3 r 0x0 4097 as a" ∷ [], Some (4, 6))
+    ∷ (codes "t 0 3 r 0x0 1 at a" ∷ [], Some (4, 4))
+    ∷ (codes "t 0 3 r 0x0 1 as A" ∷ [], Some (4, 8))
+    ∷ (codes "t 0 3 r 0x0 1 as a" ∷ codes "t 0 3 r 0x0 1 as a" ∷ [], Some (5, 9))
+    ∷ (codes "t 0 3 r 0xfffffffffffff 2 as a" ∷ [], Some (4, 6))
+    -- judgements
+    ∷ (codes "j a" ∷ [], Some (4, 10))
+    ∷ (codes "settle a max 4097" ∷ [], Some (4, 10))
+    ∷ (codes "t 0 3 r 0x0 1 as a" ∷ codes "settle a max 0" ∷ [], Some (5, 6))
+    ∷ (codes "j A" ∷ [], Some (4, 8))
+    -- polls and stages
+    ∷ (codes "until 0 0x8 0x0 0x1 max 0" ∷ [], Some (4, 6))
+    ∷ (codes "through 0 1 3 r 0x0 1 max 1" ∷ [], Some (4, 11))
+    -- lines that stand in a wrong place
+    ∷ (codes "lane 2" ∷ [], Some (4, 3))
+    ∷ (codes "lane x" ∷ [], Some (4, 5))
+    ∷ (codes "lane" ∷ [], Some (4, 4))
+    ∷ (codes "lane 1 x" ∷ [], Some (4, 4))
+    ∷ (codes "lane 2 x" ∷ [], Some (4, 3))
+    ∷ (codes "boot" ∷ [], Some (4, 3))
+    ∷ (codes "end" ∷ [], Some (5, 3))
+    -- lanes
+    ∷ (codes "lane 1" ∷ codes "lane 2" ∷ [], None)
+    ∷ (codes "lane 1" ∷ codes "lane 1" ∷ [], Some (5, 3))
+    ∷ (codes "lane 1" ∷ codes "lane 3" ∷ [], Some (5, 3))
+    ∷ (codes "t 0 3 r 0x0 1 as a" ∷ codes "lane 1" ∷ codes "j a" ∷ [], Some (6, 10))
+    ∷ []
 
--- numbers
-bad_numbers :
-    map fault_of
-    ((codes "w 0 0x8 18446744073709551616" ∷ [])
-    ∷ (codes "w 0 000000000000000000008 1" ∷ [])
-    ∷ (codes "w 0 0x 0x1" ∷ [])
-    ∷ (codes "w 4 0x8 0x1" ∷ [])
-    ∷ (codes "w 18446744073709551616 0x8 0x1" ∷ [])
-    ∷ [])
-    ≡ Some (4, 6) ∷ Some (4, 5) ∷ Some (4, 5) ∷ Some (4, 11) ∷ Some (4, 6) ∷ []
+bad_lines : map (λ row. fault_of row.0) bad_rows ≡ map (λ row. row.1) bad_rows
 unfolding digit_of number_of number_at ranged has_keys translation_at shape_at unit_line is_name slot_at with_name unit_at index_at kind_at access_at stage_at stages_at write_at read_at submit_at judge_at settle_at until_at through_at command_at head_step unit_step boot_step end_step lane_step submit_step command_step units_step section_step words_step line_step
-bad_numbers = refl
+bad_lines = refl
 
--- submissions
-bad_submissions :
-    map fault_of
-    ((codes "t 0 64 r 0x0 1 as a" ∷ [])
-    ∷ (codes "t 0 3 q 0x0 1 as a" ∷ [])
-    ∷ (codes "t 0 3 r 0x0 4097 as a" ∷ [])
-    ∷ (codes "t 0 3 r 0x0 1 at a" ∷ [])
-    ∷ (codes "t 0 3 r 0x0 1 as A" ∷ [])
-    ∷ (codes "t 0 3 r 0x0 1 as a" ∷ codes "t 0 3 r 0x0 1 as a" ∷ [])
-    ∷ (codes "t 0 3 r 0xfffffffffffff 2 as a" ∷ [])
-    ∷ [])
-    ≡ Some (4, 6) ∷ Some (4, 7) ∷ Some (4, 6) ∷ Some (4, 4) ∷ Some (4, 8) ∷ Some (5, 9) ∷ Some (4, 6) ∷ []
+-- ---- whole texts, and scripts without a fault
+
+-- the lines of whole texts, and their fault
+abbrev bad_texts : List (List (List ℕ) × Option (ℕ × ℕ))
+bad_texts =
+    ([], Some (1, 2))
+    ∷ (codes "# none" ∷ codes " " ∷ [], Some (3, 2))
+    ∷ (codes "iopmp 1" ∷ four_requesters ∷ codes "boot" ∷ [], Some (4, 3))
+    ∷ (codes "iopmp 1" ∷ codes "unit rrids 65 domains 3 entries 8 mdcfg 0 k 0 srcmd 0 sps 0 queue 1 transl -" ∷ [], Some (2, 6))
+    ∷ []
+
+faults_of_texts : map (λ row. bad_of (script_at (text_of row.0))) bad_texts ≡ map (λ row. row.1) bad_texts
 unfolding digit_of number_of number_at ranged has_keys translation_at shape_at unit_line is_name slot_at with_name unit_at index_at kind_at access_at stage_at stages_at write_at read_at submit_at judge_at settle_at until_at through_at command_at head_step unit_step boot_step end_step lane_step submit_step command_step units_step section_step words_step line_step
-bad_submissions = refl
-
--- judgements
-bad_judgements :
-    map fault_of
-    ((codes "j a" ∷ [])
-    ∷ (codes "settle a max 4097" ∷ [])
-    ∷ (codes "t 0 3 r 0x0 1 as a" ∷ codes "settle a max 0" ∷ [])
-    ∷ (codes "j A" ∷ [])
-    ∷ [])
-    ≡ Some (4, 10) ∷ Some (4, 10) ∷ Some (5, 6) ∷ Some (4, 8) ∷ []
-unfolding digit_of number_of number_at ranged has_keys translation_at shape_at unit_line is_name slot_at with_name unit_at index_at kind_at access_at stage_at stages_at write_at read_at submit_at judge_at settle_at until_at through_at command_at head_step unit_step boot_step end_step lane_step submit_step command_step units_step section_step words_step line_step
-bad_judgements = refl
-
--- polls and stages
-bad_polls :
-    map fault_of
-    ((codes "until 0 0x8 0x0 0x1 max 0" ∷ [])
-    ∷ (codes "through 0 1 3 r 0x0 1 max 1" ∷ [])
-    ∷ [])
-    ≡ Some (4, 6) ∷ Some (4, 11) ∷ []
-unfolding digit_of number_of number_at ranged has_keys translation_at shape_at unit_line is_name slot_at with_name unit_at index_at kind_at access_at stage_at stages_at write_at read_at submit_at judge_at settle_at until_at through_at command_at head_step unit_step boot_step end_step lane_step submit_step command_step units_step section_step words_step line_step
-bad_polls = refl
-
--- lines that stand in a wrong place
-bad_places :
-    map fault_of
-    ((codes "lane 2" ∷ [])
-    ∷ (codes "lane x" ∷ [])
-    ∷ (codes "lane" ∷ [])
-    ∷ (codes "lane 1 x" ∷ [])
-    ∷ (codes "lane 2 x" ∷ [])
-    ∷ (codes "boot" ∷ [])
-    ∷ (codes "end" ∷ [])
-    ∷ [])
-    ≡ Some (4, 3) ∷ Some (4, 5) ∷ Some (4, 4) ∷ Some (4, 4) ∷ Some (4, 3) ∷ Some (4, 3) ∷ Some (5, 3) ∷ []
-unfolding digit_of number_of number_at ranged has_keys translation_at shape_at unit_line is_name slot_at with_name unit_at index_at kind_at access_at stage_at stages_at write_at read_at submit_at judge_at settle_at until_at through_at command_at head_step unit_step boot_step end_step lane_step submit_step command_step units_step section_step words_step line_step
-bad_places = refl
-
--- lanes
-bad_lanes :
-    map fault_of
-    ((codes "lane 1" ∷ codes "lane 2" ∷ [])
-    ∷ (codes "lane 1" ∷ codes "lane 1" ∷ [])
-    ∷ (codes "lane 1" ∷ codes "lane 3" ∷ [])
-    ∷ (codes "t 0 3 r 0x0 1 as a" ∷ codes "lane 1" ∷ codes "j a" ∷ [])
-    ∷ [])
-    ≡ None ∷ Some (5, 3) ∷ Some (5, 3) ∷ Some (6, 10) ∷ []
-unfolding digit_of number_of number_at ranged has_keys translation_at shape_at unit_line is_name slot_at with_name unit_at index_at kind_at access_at stage_at stages_at write_at read_at submit_at judge_at settle_at until_at through_at command_at head_step unit_step boot_step end_step lane_step submit_step command_step units_step section_step words_step line_step
-bad_lanes = refl
-
--- ---- scripts without a fault, and whole texts
+faults_of_texts = refl
 
 abbrev slots_of : Result ScriptOf Bad → Option (List Command × ℕ)
 slots_of (Ok script) = Some (script.boot.commands, need_of script)
 slots_of (Err bad) = None
-
-empty_text : bad_of (script_at []) ≡ Some (1, 2)
-empty_text = refl
-
-comments_alone : bad_of (script_at (text_of (codes "# none" ∷ codes " " ∷ []))) ≡ Some (3, 2)
-unfolding digit_of number_of number_at ranged has_keys translation_at shape_at unit_line is_name slot_at with_name unit_at index_at kind_at access_at stage_at stages_at write_at read_at submit_at judge_at settle_at until_at through_at command_at head_step unit_step boot_step end_step lane_step submit_step command_step units_step section_step words_step line_step
-comments_alone = refl
-
-without_end : bad_of (script_at (text_of (codes "iopmp 1" ∷ four_requesters ∷ codes "boot" ∷ []))) ≡ Some (4, 3)
-unfolding digit_of number_of number_at ranged has_keys translation_at shape_at unit_line is_name slot_at with_name unit_at index_at kind_at access_at stage_at stages_at write_at read_at submit_at judge_at settle_at until_at through_at command_at head_step unit_step boot_step end_step lane_step submit_step command_step units_step section_step words_step line_step
-without_end = refl
-
-too_many_requesters : bad_of (script_at (text_of (codes "iopmp 1" ∷ codes "unit rrids 65 domains 3 entries 8 mdcfg 0 k 0 srcmd 0 sps 0 queue 1 transl -" ∷ []))) ≡ Some (2, 6)
-unfolding digit_of number_of number_at ranged has_keys translation_at shape_at unit_line is_name slot_at with_name unit_at index_at kind_at access_at stage_at stages_at write_at read_at submit_at judge_at settle_at until_at through_at command_at head_step unit_step boot_step end_step lane_step submit_step command_step units_step section_step words_step line_step
-too_many_requesters = refl
 
 -- slots number the submissions of the section
 two_slots :

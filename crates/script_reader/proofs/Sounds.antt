@@ -77,21 +77,25 @@ sound_start s e = subst IsSound (sym e) (record {
   place = record { boot = refl; lanes = refl; section = refl };
 })
 
+-- another place, whose lines may come
+pub sound_placed : (s : State) (next : ScriptPart) → FitsPlace next (record s { place = next }) → IsSound s → IsSound (record s { place = next })
+sound_placed s next fits sound = record {
+  few_shapes = sound.few_shapes;
+  shapes = sound.shapes;
+  boot = sound.boot;
+  boot_units = sound.boot_units;
+  boot_whole = sound.boot_whole;
+  lanes = sound.lanes;
+  lanes_units = sound.lanes_units;
+  lanes_whole = sound.lanes_whole;
+  section = sound.section;
+  place = fits;
+}
+
 pub sound_head : (s : State) → s.place ≡ Head → IsSound s → IsSound (record s { place = Units })
 sound_head s e sound =
     let here : FitsPlace Head s = subst (λ p. FitsPlace p s) e sound.place in
-    record {
-      few_shapes = sound.few_shapes;
-      shapes = sound.shapes;
-      boot = sound.boot;
-      boot_units = sound.boot_units;
-      boot_whole = sound.boot_whole;
-      lanes = sound.lanes;
-      lanes_units = sound.lanes_units;
-      lanes_whole = sound.lanes_whole;
-      section = sound.section;
-      place = record { boot = here.boot; lanes = here.lanes; section = here.section };
-    }
+    sound_placed s Units (record { boot = here.boot; lanes = here.lanes; section = here.section }) sound
 
 -- what no section has begun to name
 blank_boot : (units : ℕ) (boot : SectionOf) → boot ≡ no_commands → NamesOnlyUnits units boot
@@ -122,18 +126,7 @@ sound_unit s shape e few valid sound =
 pub sound_boot : (s : State) → s.place ≡ Units → 1 ≤ length s.shapes → IsSound s → IsSound (record s { place = Boot })
 sound_boot s e some sound =
     let here : FitsPlace Units s = subst (λ p. FitsPlace p s) e sound.place in
-    record {
-      few_shapes = sound.few_shapes;
-      shapes = sound.shapes;
-      boot = sound.boot;
-      boot_units = sound.boot_units;
-      boot_whole = sound.boot_whole;
-      lanes = sound.lanes;
-      lanes_units = sound.lanes_units;
-      lanes_whole = sound.lanes_whole;
-      section = sound.section;
-      place = record { some_units = some; few_lanes = omega (arith, ap length here.lanes) };
-    }
+    sound_placed s Boot (record { some_units = some; few_lanes = omega (arith, ap length here.lanes) }) sound
 
 fits_section : (p : ScriptPart) (s : State) (new : OpenSection) → IsInSection p → FitsPlace p s → FitsPlace p (record s { section = new })
 fits_section Head s new i fits = absurd i
