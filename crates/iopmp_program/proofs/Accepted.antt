@@ -16,8 +16,8 @@ use Rattle.iopmp_program.specs.declared.refusals.policy_lines.WhichPolicy.{Which
 use Rattle.iopmp_program.specs.declared.refusals.policy_lines.WhichPolicy.TheVariants.{Only, Old, New}
 use Rattle.iopmp_program.specs.PolicyLines.{policy_line, IsNoPolicy}
 use Rattle.iopmp_program.specs.UpdateInputs.{UpdateOf, IsUpdate, IsNoUpdate, update_of}
-use Rattle.iopmp_program.specs.PlanCommand.{plan_section, IsNotPlanned, CanBePlanned}
-use Rattle.iopmp_program.specs.NarrowCommand.{narrow_section}
+use Rattle.iopmp_program.specs.UpdatePlans.{plan_section, narrow_section}
+use Rattle.iopmp_program.specs.PlanCommand.{IsNotPlanned, CanBePlanned}
 use Rattle.iopmp_program.specs.PlansBeside.{script_beside, CanRun, IsUpdateLine}
 use Rattle.iopmp_program.specs.CommandTables.{IsRefused, IsAccepted}
 

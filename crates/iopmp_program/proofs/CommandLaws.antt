@@ -1,5 +1,5 @@
 -- How a call of each command ends, in the command's words. All of it follows from what is said once for all commands.
-use Rattle.std.proofs.Common.{◌≡◌, ℕ, ◌⊎◌, List, Option, Some, None, Ok, refl, subst, inl, inr}
+use Rattle.std.proofs.Common.{◌≡◌, ℕ, ◌⊎◌, false, List, Option, Some, None, Ok, refl, subst, inl, inr}
 use Rattle.std.specs.Prelude.{IsSomeAnd, ◌+◌, ◌++◌, codes}
 use Rattle.std.specs.Fmt.{decimal}
 use Rattle.script_reader.specs.Answers.{reading_of}
@@ -7,12 +7,11 @@ use Rattle.iopmp_program.specs.declared.status.Status.{Status}
 use Rattle.iopmp_program.specs.declared.status.Status.TheVariants.{Done, Usage, BadInput, ReadFault, WriteFault, NoMemory, TooLong, NotLegal}
 use Rattle.iopmp_program.specs.declared.subcommand.Subcommand.{Subcommand}
 use Rattle.iopmp_program.specs.declared.subcommand.Subcommand.TheVariants.{Run, Compile, Plan, Live, Gen, Soak, Faults, Audit, Narrow, NarrowLive}
+use Rattle.iopmp_program.specs.declared.inputs.update.WhichPlan.TheVariants as plans
 use Rattle.iopmp_program.specs.RunCommand.{IsReport, IsRefusal}
 use Rattle.iopmp_program.specs.CompileCommand.{IsCompiled, IsNotCompiled}
 use Rattle.iopmp_program.specs.PlanCommand.{IsPlanned, IsNotPlanned}
 use Rattle.iopmp_program.specs.LiveCommand.{IsLiveReport, IsLiveRefusal}
-use Rattle.iopmp_program.specs.NarrowCommand.{IsNarrowed}
-use Rattle.iopmp_program.specs.NarrowLiveCommand.{IsNarrowReport, IsNarrowRefusal}
 use Rattle.iopmp_program.specs.GeneratedScripts.{generated_script}
 use Rattle.iopmp_program.specs.GenCommand.{generated_text}
 use Rattle.iopmp_program.specs.SoakCommand.{IsSoak, IsSoaked}
@@ -22,8 +21,9 @@ use Rattle.audit_reader.specs.declared.answer.Audit.{Audit as Found}
 use Rattle.audit_reader.specs.declared.answer.Audit.TheVariants.{Legal, BadAt}
 use Rattle.audit_reader.specs.Audits.{Audits}
 use Rattle.iopmp_program.specs.AuditCommand.{CanBeAudited, Says, IsNotAudited}
-use Rattle.iopmp_program.specs.CommandTables.{Gives, IsRefused, IsAccepted}
-use Rattle.iopmp_program.specs.CallEndings.{Change, WasRead, WasWritten, PrefixWritten, IsText, EndsCommand}
+use Rattle.iopmp_program.specs.AnswerForms.{TextOf, ReportOf}
+use Rattle.iopmp_program.specs.CommandTables.{reads, Gives, IsRefused, IsAccepted}
+use Rattle.iopmp_program.specs.CallEndings.{Change, WasRead, WasWritten, PrefixWritten, IsInput, IsText, EndsCommand}
 use Rattle.iopmp_program.proofs.Accepted.{never_refused}
 
 -- ---- words
@@ -32,56 +32,94 @@ use Rattle.iopmp_program.proofs.Accepted.{never_refused}
 abbrev pub Answered : (List ℕ → List ℕ → Type 0) → Change → Change → Type 0
 Answered Is source sink = (bytes : List ℕ) × (text : List ℕ) × WasRead source bytes × Is bytes text × WasWritten sink text
 
--- ---- run
+-- The work is done, and this text was written.
+abbrev pub WritesText : Subcommand → (List ℕ → List ℕ → Type 0) → Type 0
+WritesText command Is =
+    (source sink : Change) (history : Option (List ℕ)) → EndsCommand command source sink Done history → (history ≡ None) × Answered Is source sink
+
+-- The work is done: a history was made and told of, and its text was written.
+abbrev pub WritesReport : Subcommand → (List ℕ → List ℕ → List ℕ → Type 0) → Type 0
+WritesReport command Is =
+    (source sink : Change) (history : Option (List ℕ)) → EndsCommand command source sink Done history → IsSomeAnd history (λ words. Answered (λ bytes text. Is bytes words text) source sink)
+
+-- The input was refused with this line.
+abbrev pub WritesRefusal : Subcommand → (List ℕ → List ℕ → Type 0) → Type 0
+WritesRefusal command IsLine =
+    (source sink : Change) (history : Option (List ℕ)) → EndsCommand command source sink BadInput history → (history ≡ None) × Answered IsLine source sink
+
+-- of a command that reads its input
+abbrev pub Reads : Subcommand → Type 0
+Reads command = (source : Change) (bytes : List ℕ) → IsInput command source bytes → WasRead source bytes
+
+writes_text : (command : Subcommand) (Is : List ℕ → List ℕ → Type 0) → Reads command
+    → ((bytes : List ℕ) (history : Option (List ℕ)) (text : List ℕ) → Gives command bytes Done history text → TextOf (Is bytes) Done history text) → WritesText command Is
+writes_text command Is read gives source sink history e =
+    let given = gives e.1.0 history e.0 e.1.2 in
+    (given.1, (e.1.0, e.0, read source e.1.0 e.1.1, given.2, e.2))
+
+writes_report : (command : Subcommand) (Is : List ℕ → List ℕ → List ℕ → Type 0) → Reads command
+    → ((bytes : List ℕ) (history : Option (List ℕ)) (text : List ℕ) → Gives command bytes Done history text → ReportOf (Is bytes) Done history text) → WritesReport command Is
+writes_report command Is read gives source sink None e = absurd (gives e.1.0 None e.0 e.1.2).1
+writes_report command Is read gives source sink (Some words) e = (e.1.0, e.0, read source e.1.0 e.1.1, (gives e.1.0 (Some words) e.0 e.1.2).1, e.2)
+
+writes_refusal : (command : Subcommand) (IsLine : List ℕ → List ℕ → Type 0) → Reads command → ((bytes line : List ℕ) → IsRefused command bytes line → IsLine bytes line) → WritesRefusal command IsLine
+writes_refusal command IsLine read refused source sink history e =
+    (e.0, (e.1.1.0, e.1.0, read source e.1.1.0 e.1.1.1, refused e.1.1.0 e.1.0 e.1.1.2, e.1.2))
+
+-- ---- what each command writes
 
 -- The headline: a legal history of the script was made and told of, and its report was written.
-pub run_done : (source sink : Change) (history : Option (List ℕ)) → EndsCommand Run source sink Done history
-    → IsSomeAnd history (λ words. Answered (λ bytes text. IsReport bytes words text) source sink)
-run_done source sink None e = absurd e.1.2.1
-run_done source sink (Some words) e = (e.1.0, e.0, e.1.1, e.1.2.1, e.2)
+pub run_done : WritesReport Run IsReport
+run_done = writes_report Run IsReport (λ source bytes read. read) (λ bytes history text given. given)
 
-pub run_refused : (source sink : Change) (history : Option (List ℕ)) → EndsCommand Run source sink BadInput history → (history ≡ None) × Answered IsRefusal source sink
-run_refused source sink history e = (e.0, (e.1.1.0, e.1.0, e.1.1.1, e.1.1.2, e.1.2))
-
--- ---- compile
-
-pub compile_done : (source sink : Change) (history : Option (List ℕ)) → EndsCommand Compile source sink Done history → (history ≡ None) × Answered IsCompiled source sink
-compile_done source sink history e = (e.1.2.1, (e.1.0, e.0, e.1.1, e.1.2.2, e.2))
-
-pub compile_refused : (source sink : Change) (history : Option (List ℕ)) → EndsCommand Compile source sink BadInput history → (history ≡ None) × Answered IsNotCompiled source sink
-compile_refused source sink history e = (e.0, (e.1.1.0, e.1.0, e.1.1.1, e.1.1.2, e.1.2))
-
--- ---- plan
-
-pub plan_done : (source sink : Change) (history : Option (List ℕ)) → EndsCommand Plan source sink Done history → (history ≡ None) × Answered IsPlanned source sink
-plan_done source sink history e = (e.1.2.1, (e.1.0, e.0, e.1.1, e.1.2.2, e.2))
-
-pub plan_refused : (source sink : Change) (history : Option (List ℕ)) → EndsCommand Plan source sink BadInput history → (history ≡ None) × Answered IsNotPlanned source sink
-plan_refused source sink history e = (e.0, (e.1.1.0, e.1.0, e.1.1.1, e.1.1.2, e.1.2))
-
--- ---- live
+-- The report without its last line was written, and what the history's readings of the windows show and leave.
+pub faults_done : WritesReport Faults IsFaultsReport
+faults_done = writes_report Faults IsFaultsReport (λ source bytes read. read) (λ bytes history text given. given)
 
 -- A legal history of the update's script was made and told of, each of its verdicts is the old policy's or the new
 -- one's by its place, and its report was written.
-pub live_done : (source sink : Change) (history : Option (List ℕ)) → EndsCommand Live source sink Done history
-    → IsSomeAnd history (λ words. Answered (λ bytes text. IsLiveReport bytes words text) source sink)
-live_done source sink None e = absurd e.1.2.1
-live_done source sink (Some words) e = (e.1.0, e.0, e.1.1, e.1.2.1, e.2)
+pub live_done : WritesReport Live (IsLiveReport plans.Whole)
+live_done = writes_report Live (IsLiveReport plans.Whole) (λ source bytes read. read) (λ bytes history text given. given)
 
-pub live_refused : (source sink : Change) (history : Option (List ℕ)) → EndsCommand Live source sink BadInput history → (history ≡ None) × Answered IsLiveRefusal source sink
-live_refused source sink history e = (e.0, (e.1.1.0, e.1.0, e.1.1.1, e.1.1.2, e.1.2))
+-- So with the narrow plan's script; an unaffected requester's submissions pass in it, and each verdict is by the
+-- policies.
+pub narrow_live_done : WritesReport NarrowLive (IsLiveReport plans.Narrow)
+narrow_live_done = writes_report NarrowLive (IsLiveReport plans.Narrow) (λ source bytes read. read) (λ bytes history text given. given)
 
--- ---- faults
+pub compile_done : WritesText Compile IsCompiled
+compile_done = writes_text Compile IsCompiled (λ source bytes read. read) (λ bytes history text given. given)
 
--- A legal history of the script was made and told of. What was written is its report without the last line, and
--- what its readings of the windows show and leave.
-pub faults_done : (source sink : Change) (history : Option (List ℕ)) → EndsCommand Faults source sink Done history
-    → IsSomeAnd history (λ words. Answered (λ bytes text. IsFaultsReport bytes words text) source sink)
-faults_done source sink None e = absurd e.1.2.1
-faults_done source sink (Some words) e = (e.1.0, e.0, e.1.1, e.1.2.1, e.2)
+pub plan_done : WritesText Plan (IsPlanned plans.Whole)
+plan_done = writes_text Plan (IsPlanned plans.Whole) (λ source bytes read. read) (λ bytes history text given. given)
 
-pub faults_refused : (source sink : Change) (history : Option (List ℕ)) → EndsCommand Faults source sink BadInput history → (history ≡ None) × Answered IsRefusal source sink
-faults_refused source sink history e = (e.0, (e.1.1.0, e.1.0, e.1.1.1, e.1.1.2, e.1.2))
+pub narrow_done : WritesText Narrow (IsPlanned plans.Narrow)
+narrow_done = writes_text Narrow (IsPlanned plans.Narrow) (λ source bytes read. read) (λ bytes history text given. given)
+
+-- ---- with which line each command refuses its input
+
+pub run_refused : WritesRefusal Run IsRefusal
+run_refused = writes_refusal Run IsRefusal (λ source bytes read. read) (λ bytes line refused. refused)
+
+pub faults_refused : WritesRefusal Faults IsRefusal
+faults_refused = writes_refusal Faults IsRefusal (λ source bytes read. read) (λ bytes line refused. refused)
+
+pub compile_refused : WritesRefusal Compile IsNotCompiled
+compile_refused = writes_refusal Compile IsNotCompiled (λ source bytes read. read) (λ bytes line refused. refused)
+
+pub plan_refused : WritesRefusal Plan IsNotPlanned
+plan_refused = writes_refusal Plan IsNotPlanned (λ source bytes read. read) (λ bytes line refused. refused)
+
+pub narrow_refused : WritesRefusal Narrow IsNotPlanned
+narrow_refused = writes_refusal Narrow IsNotPlanned (λ source bytes read. read) (λ bytes line refused. refused)
+
+pub live_refused : WritesRefusal Live (IsLiveRefusal plans.Whole)
+live_refused = writes_refusal Live (IsLiveRefusal plans.Whole) (λ source bytes read. read) (λ bytes line refused. refused)
+
+pub narrow_live_refused : WritesRefusal NarrowLive (IsLiveRefusal plans.Narrow)
+narrow_live_refused = writes_refusal NarrowLive (IsLiveRefusal plans.Narrow) (λ source bytes read. read) (λ bytes line refused. refused)
+
+pub audit_refused : WritesRefusal Audit IsNotAudited
+audit_refused = writes_refusal Audit IsNotAudited (λ source bytes read. read) (λ bytes line refused. refused)
 
 -- ---- audit
 
@@ -118,29 +156,6 @@ audit_not_legal source sink history e = by e.1.2.said.found e.1.2.said.true_of e
         × (text ≡ codes "no " ++ (decimal (input.parts.heading + line) ++ codes "\n"))) source sink
     by Legal t s = let status = s.0 in absurd cc
     by (BadAt line) t s = (s.1, (bytes, e.0, e.1.1, (input, line, t, s.2), e.2))
-
-pub audit_refused : (source sink : Change) (history : Option (List ℕ)) → EndsCommand Audit source sink BadInput history → (history ≡ None) × Answered IsNotAudited source sink
-audit_refused source sink history e = (e.0, (e.1.1.0, e.1.0, e.1.1.1, e.1.1.2, e.1.2))
-
--- ---- narrow
-
-pub narrow_done : (source sink : Change) (history : Option (List ℕ)) → EndsCommand Narrow source sink Done history → (history ≡ None) × Answered IsNarrowed source sink
-narrow_done source sink history e = (e.1.2.1, (e.1.0, e.0, e.1.1, e.1.2.2, e.2))
-
-pub narrow_refused : (source sink : Change) (history : Option (List ℕ)) → EndsCommand Narrow source sink BadInput history → (history ≡ None) × Answered IsNotPlanned source sink
-narrow_refused source sink history e = (e.0, (e.1.1.0, e.1.0, e.1.1.1, e.1.1.2, e.1.2))
-
--- ---- narrow live
-
--- A legal history of the narrow plan's script was made and told of, an unaffected requester's submissions pass in it,
--- each verdict is by the policies, and its report was written.
-pub narrow_live_done : (source sink : Change) (history : Option (List ℕ)) → EndsCommand NarrowLive source sink Done history
-    → IsSomeAnd history (λ words. Answered (λ bytes text. IsNarrowReport bytes words text) source sink)
-narrow_live_done source sink None e = absurd e.1.2.1
-narrow_live_done source sink (Some words) e = (e.1.0, e.0, e.1.1, e.1.2.1, e.2)
-
-pub narrow_live_refused : (source sink : Change) (history : Option (List ℕ)) → EndsCommand NarrowLive source sink BadInput history → (history ≡ None) × Answered IsNarrowRefusal source sink
-narrow_live_refused source sink history e = (e.0, (e.1.1.0, e.1.0, e.1.1.1, e.1.1.2, e.1.2))
 
 -- ---- gen
 
@@ -183,27 +198,27 @@ soak_stopped number source sink history e = by e.2.1
 
 -- ---- gen and soak read nothing, so they have no input's faults
 
+reads_nothing : (command : Subcommand) (source sink : Change) (status : Status) (history : Option (List ℕ)) → reads command ≡ false → ((bytes line : List ℕ) → IsRefused command bytes line → ⊥)
+    → ((bytes : List ℕ) (told : Option (List ℕ)) (text : List ℕ) → Gives command bytes NotLegal told text → ⊥) → EndsCommand command source sink status history
+    → (status ≡ Done) ⊎ (status ≡ WriteFault) ⊎ (status ≡ NoMemory)
+reads_nothing command source sink Done history none never legal e = inl refl
+reads_nothing command source sink WriteFault history none never legal e = inr (inl refl)
+reads_nothing command source sink NoMemory history none never legal e = inr (inr refl)
+reads_nothing command source sink Usage history none never legal e = absurd e
+reads_nothing command source sink BadInput history none never legal e = absurd (never e.1.1.0 e.1.0 e.1.1.2)
+reads_nothing command source sink ReadFault history none never legal e = let asked = e.1 in absurd cc
+reads_nothing command source sink TooLong history none never legal e = let asked = e.1.1.asked in absurd cc
+reads_nothing command source sink NotLegal history none never legal e = absurd (legal e.1.0 history e.0 e.1.2)
+
 pub gen_reads_nothing : (number : ℕ) (source sink : Change) (status : Status) (history : Option (List ℕ)) → EndsCommand (Gen number) source sink status history
     → (status ≡ Done) ⊎ (status ≡ WriteFault) ⊎ (status ≡ NoMemory)
-gen_reads_nothing number source sink Done history e = inl refl
-gen_reads_nothing number source sink WriteFault history e = inr (inl refl)
-gen_reads_nothing number source sink NoMemory history e = inr (inr refl)
-gen_reads_nothing number source sink Usage history e = absurd e
-gen_reads_nothing number source sink BadInput history e = absurd e.1.1.2
-gen_reads_nothing number source sink ReadFault history e = let asked = e.1 in absurd cc
-gen_reads_nothing number source sink TooLong history e = let asked = e.1.1.asked in absurd cc
-gen_reads_nothing number source sink NotLegal history e = let done = e.1.2.0 in absurd cc
+gen_reads_nothing number source sink status history e =
+    reads_nothing (Gen number) source sink status history refl (λ bytes line never. never) (λ bytes told text given. let done = given.0 in absurd cc) e
 
 pub soak_reads_nothing : (number : ℕ) (source sink : Change) (status : Status) (history : Option (List ℕ)) → EndsCommand (Soak number) source sink status history
     → (status ≡ Done) ⊎ (status ≡ WriteFault) ⊎ (status ≡ NoMemory)
-soak_reads_nothing number source sink Done history e = inl refl
-soak_reads_nothing number source sink WriteFault history e = inr (inl refl)
-soak_reads_nothing number source sink NoMemory history e = inr (inr refl)
-soak_reads_nothing number source sink Usage history e = absurd e
-soak_reads_nothing number source sink BadInput history e = absurd e.1.1.2
-soak_reads_nothing number source sink ReadFault history e = let asked = e.1 in absurd cc
-soak_reads_nothing number source sink TooLong history e = let asked = e.1.1.asked in absurd cc
-soak_reads_nothing number source sink NotLegal history e = let done = e.1.2.0 in absurd cc
+soak_reads_nothing number source sink status history e =
+    reads_nothing (Soak number) source sink status history refl (λ bytes line never. never) (λ bytes told text given. let done = given.0 in absurd cc) e
 
 -- ---- each command
 

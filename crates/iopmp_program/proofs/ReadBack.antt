@@ -26,9 +26,11 @@ use Rattle.iopmp_program.specs.CompileCommand.{image_script}
 use Rattle.iopmp_program.specs.GeneratedScripts.{boot_writes, generated_script}
 use Rattle.iopmp_program.specs.GenCommand.{generated_text}
 use Rattle.iopmp_program.specs.UpdateInputs.{UpdateOf, IsReadable}
-use Rattle.iopmp_program.specs.PlanCommand.{plan_section, old_script, Plans}
+use Rattle.iopmp_program.specs.declared.inputs.update.WhichPlan.{WhichPlan}
+use Rattle.iopmp_program.specs.declared.inputs.update.WhichPlan.TheVariants.{Whole, Narrow}
+use Rattle.iopmp_program.specs.UpdatePlans.{wanted_section}
+use Rattle.iopmp_program.specs.PlanCommand.{old_script, Plans}
 use Rattle.iopmp_program.specs.PlansBeside.{IsPlayablePlan}
-use Rattle.iopmp_program.specs.NarrowCommand.{narrow_section}
 use Rattle.narrow_plans.specs.Unaffected.{is_affected, affected}
 use Rattle.narrow_plans.specs.NarrowPlans.{stall_command, narrow_commands}
 use Rattle.iopmp_program.proofs.GeneratedSound.{each_lane, generated_told, formed, few}
@@ -138,14 +140,6 @@ pub lane_read_back : (u : UpdateOf) (plan : SectionOf) (text : List ℕ) → IsR
 lane_read_back u plan text good p told few printed =
     ap (λ t. reading_of (text_before_end (old_script u) ++ t)) printed ∙ lane_reads_back 1 plan (old_script u) refl (readable u plan good p told few)
 
-pub plan_read_back : (u : UpdateOf) (section : SectionOf) (text : List ℕ) → IsReadable u → Plans (plan_section u) u section → text ≡ lane_text 1 (plan_section u) ++ codes "end\n"
-    → reading_of (text_before_end (old_script u) ++ text) ≡ Ok (with_lane (old_script u) (plan_section u))
-unfolding image_of
-plan_read_back u section text good p printed =
-    let entries = good.new.shape.valid.entries in
-    lane_read_back u (plan_section u) text good (subst (IsPlayablePlan u) p.is (beside.plan_may u section p)) (plan_told (image_of u.old) (image_of u.new) u.polls)
-    (plan_events (image_of u.old) (image_of u.new) u.polls (omega arith) (good.polls.few)) printed
-
 -- ---- a narrow plan
 
 stalls_told : (ss : List ℕ) (rest : List Command) → AllByRecursion IsToldWhole rest → AllByRecursion IsToldWhole (map stall_command ss ++ rest)
@@ -190,11 +184,23 @@ narrow_events old new polls known entries few =
       rewritten_few old new,
     )
 
-pub narrow_read_back : (u : UpdateOf) (section : SectionOf) (text : List ℕ) → IsReadable u → Plans (narrow_section u) u section → text ≡ lane_text 1 (narrow_section u) ++ codes "end\n"
-    → reading_of (text_before_end (old_script u) ++ text) ≡ Ok (with_lane (old_script u) (narrow_section u))
+-- ---- the plan that is wanted
+
+wanted_told : (which : WhichPlan) (u : UpdateOf) → AllByRecursion IsToldWhole (wanted_section which u).commands
+wanted_told Whole u = plan_told (image_of u.old) (image_of u.new) u.polls
+wanted_told Narrow u = narrow_told (image_of u.old) (image_of u.new) u.polls
+
+wanted_few : (which : WhichPlan) (u : UpdateOf) → IsReadable u → most_section_events (wanted_section which u) ≤ 65536
 unfolding image_of
-narrow_read_back u section text good p printed =
+wanted_few Whole u good =
+    let entries = good.new.shape.valid.entries in
+    plan_events (image_of u.old) (image_of u.new) u.polls (omega arith) (good.polls.few)
+wanted_few Narrow u good =
     let known = good.old.shape.valid.rrids in
     let entries = good.new.shape.valid.entries in
-    lane_read_back u (narrow_section u) text good (subst (IsPlayablePlan u) p.is (beside.narrow_may u section p)) (narrow_told (image_of u.old) (image_of u.new) u.polls)
-    (narrow_events (image_of u.old) (image_of u.new) u.polls (omega arith) (omega arith) (good.polls.few)) printed
+    narrow_events (image_of u.old) (image_of u.new) u.polls (omega arith) (omega arith) (good.polls.few)
+
+pub plan_read_back : (which : WhichPlan) (u : UpdateOf) (section : SectionOf) (text : List ℕ) → IsReadable u → Plans (wanted_section which u) u section → text ≡ lane_text 1 (wanted_section which u) ++ codes "end\n"
+    → reading_of (text_before_end (old_script u) ++ text) ≡ Ok (with_lane (old_script u) (wanted_section which u))
+plan_read_back which u section text good p printed =
+    lane_read_back u (wanted_section which u) text good (subst (IsPlayablePlan u) p.is (beside.plan_may which u section p)) (wanted_told which u) (wanted_few which u good) printed

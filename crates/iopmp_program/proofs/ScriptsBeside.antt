@@ -20,10 +20,12 @@ use Rattle.iopmp_program.specs.AnswerForms.{HasLine, ReportOf}
 use Rattle.iopmp_program.specs.ReportedRuns.{IsRun}
 use Rattle.iopmp_program.specs.FaultLines.{refusal_line}
 use Rattle.iopmp_program.specs.UpdateInputs.{UpdateOf, IsReadable}
-use Rattle.iopmp_program.specs.PlanCommand.{plan_section, Plans}
+use Rattle.iopmp_program.specs.declared.inputs.update.WhichPlan.{WhichPlan}
+use Rattle.iopmp_program.specs.declared.inputs.update.WhichPlan.TheVariants.{Whole, Narrow}
+use Rattle.iopmp_program.specs.UpdatePlans.{wanted_section}
+use Rattle.iopmp_program.specs.PlanCommand.{Plans}
 use Rattle.narrow_plans.specs.Unaffected.{affected}
 use Rattle.narrow_plans.specs.NarrowPlans.{stall_command, narrow_commands}
-use Rattle.iopmp_program.specs.NarrowCommand.{narrow_section}
 use Rattle.iopmp_program.specs.PlansBeside.{script_beside, IsPlayablePlan, IsRunBeside, NeedsMoreEvents}
 use Rattle.iopmp_program.specs.UpdateScripts.{IsLanesOr, IsAffordable, IsAffordableOr, IsScriptOfUpdate, IsScriptOfUpdateOr, IsPlayedOr}
 use Rattle.iopmp_program.proofs.CommandAnswers.{report_as}
@@ -50,21 +52,17 @@ narrow_on_0 : (old new : ImageOf) (polls : ℕ) → AllByRecursion (NamesUnits 1
 unfolding narrow_commands rewrites
 narrow_on_0 old new polls = stalls_on_0 (affected old new) _ (omega arith, appended (NamesUnits 1) (rewrites old new) _ (rewrites_on_0 new _) (omega arith, tt))
 
--- the plan may be played
-pub plan_may : (u : UpdateOf) (plan : SectionOf) → Plans (plan_section u) u plan → IsPlayablePlan u plan
-plan_may u plan p = record {
-  plans = p.plans;
-  old_fits = p.old_fits;
-  valid = p.valid;
-  units = subst (λ s. AllByRecursion (NamesUnits 1) s.commands) (sym p.is) (plan_on_0 (image_of u.old) (image_of u.new) u.polls);
-}
+wanted_on_0 : (which : WhichPlan) (u : UpdateOf) → AllByRecursion (NamesUnits 1) (wanted_section which u).commands
+wanted_on_0 Whole u = plan_on_0 (image_of u.old) (image_of u.new) u.polls
+wanted_on_0 Narrow u = narrow_on_0 (image_of u.old) (image_of u.new) u.polls
 
-pub narrow_may : (u : UpdateOf) (plan : SectionOf) → Plans (narrow_section u) u plan → IsPlayablePlan u plan
-narrow_may u plan p = record {
+-- the plan may be played
+pub plan_may : (which : WhichPlan) (u : UpdateOf) (plan : SectionOf) → Plans (wanted_section which u) u plan → IsPlayablePlan u plan
+plan_may which u plan p = record {
   plans = p.plans;
   old_fits = p.old_fits;
   valid = p.valid;
-  units = subst (λ s. AllByRecursion (NamesUnits 1) s.commands) (sym p.is) (narrow_on_0 (image_of u.old) (image_of u.new) u.polls);
+  units = subst (λ s. AllByRecursion (NamesUnits 1) s.commands) (sym p.is) (wanted_on_0 which u);
 }
 
 pub formed : (u : UpdateOf) (plan : SectionOf) (lanes : List SectionOf) → IsReadable u → IsPlayablePlan u plan → AreLiveLanes lanes → IsWellFormedScript (script_beside plan u lanes)

@@ -1,22 +1,20 @@
 -- A legal history is one run of its script, and its text tells of it.
-use Rattle.std.proofs.Common.{◌≡◌, ℕ, ◌∙◌, List, refl, sym, subst}
+use Rattle.std.proofs.Common.{◌≡◌, ℕ, ◌∙◌, List, refl, sym, ap, subst}
 use Rattle.std.specs.List.{AllByRecursion}
 use Rattle.std.proofs.lemmas.List.Elements.{All-from_recursion}
 use Rattle.event_words.specs.Valid.{IsValidShape, IsValidEvent}
 use Rattle.script_reader.specs.Scripts.{ScriptOf}
 use Rattle.unit_core.specs.Histories.{IsLegalHistory, history_of, events_of_words}
-use Rattle.unit_core.specs.Reports.{report_text}
 use Rattle.history_laws.specs.Laws.{LawKept}
 use Rattle.history_laws.specs.OneHistory.{LawOneHistory}
 use Rattle.history_laws.specs.EqualReports.{LawReports}
 use Rattle.fault_windows.specs.Laws.{LawFaults}
+use Rattle.iopmp_program.specs.declared.playing.reported.WhichReport.{WhichReport}
+use Rattle.iopmp_program.specs.declared.playing.reported.WhichReport.TheVariants.{Plain, WithFaults}
 use Rattle.iopmp_program.specs.ReportedRuns.{IsRun}
-use Rattle.iopmp_program.specs.FaultsCommand.{IsFaultsText, IsFaultsRun}
+use Rattle.iopmp_program.specs.FaultsCommand.{IsFaultsText, IsFaultsRun, IsTextOf, IsRunOf, report_of}
 use Rattle.iopmp_program.proofs.NoCommands.{one_history}
 use Rattle.iopmp_program.proofs.WindowPlaces.{all_valid}
-
-abbrev pub report_of : ScriptOf → List ℕ → List ℕ
-report_of script history = report_text script.shapes script.boot script.lanes history
 
 pub is_run : LawKept → LawOneHistory → LawReports → (script : ScriptOf) (history text : List ℕ) → AllByRecursion IsValidShape script.shapes → IsLegalHistory script.shapes script.boot script.lanes history
     → text ≡ report_of script history → IsRun script history text
@@ -36,3 +34,8 @@ is_faults_run kept one reports faults script history words text shapes legal sam
   faults = subst (λ ws. IsFaultsText script ws (report_of script ws) text) same is;
   late = faults (history_of script.shapes history) (All-from_recursion IsValidShape script.shapes shapes) (All-from_recursion IsValidEvent (events_of_words history) (all_valid history legal.events));
 }
+
+pub is_run_of : LawKept → LawOneHistory → LawReports → LawFaults → (which : WhichReport) (script : ScriptOf) (history words text : List ℕ) → AllByRecursion IsValidShape script.shapes
+    → IsLegalHistory script.shapes script.boot script.lanes history → words ≡ history → IsTextOf which script words text → IsRunOf which script history text
+is_run_of kept one reports faults Plain script history words text shapes legal same is = is_run kept one reports script history text shapes legal (is ∙ ap (report_of script) same)
+is_run_of kept one reports faults WithFaults script history words text shapes legal same is = is_faults_run kept one reports faults script history words text shapes legal same is

@@ -4,6 +4,10 @@ use Rattle.std.specs.Prelude.{ℕ, Bool, true, false, List, Option, Result}
 use Rattle.iopmp_program.specs.declared.status.Status.{Status}
 use Rattle.iopmp_program.specs.declared.subcommand.Subcommand.{Subcommand}
 use Rattle.iopmp_program.specs.declared.subcommand.Subcommand.TheVariants.{Run, Compile, Plan, Live, Gen, Soak, Faults, Audit, Narrow, NarrowLive}
+use Rattle.iopmp_program.specs.declared.inputs.update.WhichPlan.{WhichPlan}
+use Rattle.iopmp_program.specs.declared.inputs.update.WhichPlan.TheVariants as plans
+use Rattle.iopmp_program.specs.declared.playing.reported.WhichReport.{WhichReport}
+use Rattle.iopmp_program.specs.declared.playing.reported.WhichReport.TheVariants as reports
 use Rattle.iopmp_program.specs.declared.answer.Answer.{Answer}
 use Rattle.iopmp_program.specs.declared.answer.NoAnswer.{NoAnswer}
 use Rattle.iopmp_program.specs.AnswerForms.{TextOf, ReportOf, GivesOr}
@@ -11,8 +15,6 @@ use Rattle.iopmp_program.specs.RunCommand.{IsReport, IsRefusal, StandsForScript}
 use Rattle.iopmp_program.specs.CompileCommand.{IsCompiled, IsNotCompiled, CanBeCompiled}
 use Rattle.iopmp_program.specs.PlanCommand.{IsPlanned, IsNotPlanned, CanBePlanned}
 use Rattle.iopmp_program.specs.LiveCommand.{IsLiveReport, IsLiveRefusal, CanBeRunLive}
-use Rattle.iopmp_program.specs.NarrowCommand.{IsNarrowed}
-use Rattle.iopmp_program.specs.NarrowLiveCommand.{IsNarrowReport, IsNarrowRefusal, CanBeRunNarrow}
 use Rattle.iopmp_program.specs.GenCommand.{IsGenerated}
 use Rattle.iopmp_program.specs.SoakCommand.{IsSoaked}
 use Rattle.iopmp_program.specs.FaultsCommand.{IsFaultsReport}
@@ -36,42 +38,56 @@ reads NarrowLive = true
 abbrev pub Gives : Subcommand → List ℕ → Status → Option (List ℕ) → List ℕ → Type 0
 Gives Run bytes = ReportOf (IsReport bytes)
 Gives Compile bytes = TextOf (IsCompiled bytes)
-Gives Plan bytes = TextOf (IsPlanned bytes)
-Gives Live bytes = ReportOf (IsLiveReport bytes)
+Gives Plan bytes = TextOf (IsPlanned plans.Whole bytes)
+Gives Live bytes = ReportOf (IsLiveReport plans.Whole bytes)
 Gives (Gen number) bytes = TextOf (IsGenerated number)
 Gives (Soak number) bytes = ReportOf (IsSoaked number)
 Gives Faults bytes = ReportOf (IsFaultsReport bytes)
 Gives Audit bytes = IsAudited bytes
-Gives Narrow bytes = TextOf (IsNarrowed bytes)
-Gives NarrowLive bytes = ReportOf (IsNarrowReport bytes)
+Gives Narrow bytes = TextOf (IsPlanned plans.Narrow bytes)
+Gives NarrowLive bytes = ReportOf (IsLiveReport plans.Narrow bytes)
 
 -- The command refuses these bytes with this line.
 abbrev pub IsRefused : Subcommand → List ℕ → List ℕ → Type 0
 IsRefused Run bytes line = IsRefusal bytes line
 IsRefused Compile bytes line = IsNotCompiled bytes line
 IsRefused Plan bytes line = IsNotPlanned bytes line
-IsRefused Live bytes line = IsLiveRefusal bytes line
+IsRefused Live bytes line = IsLiveRefusal plans.Whole bytes line
 IsRefused (Gen number) bytes line = ⊥
 IsRefused (Soak number) bytes line = ⊥
 IsRefused Faults bytes line = IsRefusal bytes line
 IsRefused Audit bytes line = IsNotAudited bytes line
 IsRefused Narrow bytes line = IsNotPlanned bytes line
-IsRefused NarrowLive bytes line = IsNarrowRefusal bytes line
+IsRefused NarrowLive bytes line = IsLiveRefusal plans.Narrow bytes line
 
 -- The bytes have none of the command's faults.
 abbrev pub IsAccepted : Subcommand → List ℕ → Type 0
 IsAccepted Run bytes = StandsForScript bytes
 IsAccepted Compile bytes = CanBeCompiled bytes
 IsAccepted Plan bytes = CanBePlanned bytes
-IsAccepted Live bytes = CanBeRunLive bytes
+IsAccepted Live bytes = CanBeRunLive plans.Whole bytes
 IsAccepted (Gen number) bytes = Unit {0}
 IsAccepted (Soak number) bytes = Unit {0}
 IsAccepted Faults bytes = StandsForScript bytes
 IsAccepted Audit bytes = CanBeAudited bytes
 IsAccepted Narrow bytes = CanBePlanned bytes
-IsAccepted NarrowLive bytes = CanBeRunNarrow bytes
+IsAccepted NarrowLive bytes = CanBeRunLive plans.Narrow bytes
 
 -- what a command's function gives for these bytes
 abbrev pub Answers : Subcommand → List ℕ → Result Answer NoAnswer → Type 0
 Answers command bytes =
     GivesOr (λ a. Gives command bytes a.status a.history a.text.items) (IsRefused command bytes)
+
+-- ---- commands that differ in one thing
+
+abbrev pub plan_command : WhichPlan → Subcommand
+plan_command plans.Whole = Plan
+plan_command plans.Narrow = Narrow
+
+abbrev pub live_command : WhichPlan → Subcommand
+live_command plans.Whole = Live
+live_command plans.Narrow = NarrowLive
+
+abbrev pub run_command : WhichReport → Subcommand
+run_command reports.Plain = Run
+run_command reports.WithFaults = Faults

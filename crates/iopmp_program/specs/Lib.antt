@@ -13,11 +13,10 @@ pub mod PolicyLines
 pub mod CompileCommand
 pub mod PlanLines
 pub mod UpdateInputs
+pub mod UpdatePlans
 pub mod PlanCommand
 pub mod PlansBeside
 pub mod LiveCommand
-pub mod NarrowCommand
-pub mod NarrowLiveCommand
 pub mod UpdateScripts
 pub mod PlayedSections
 pub mod GeneratedScripts

@@ -1,4 +1,4 @@
--- What `plan` answers.
+-- What `plan` and `narrow` answer: they differ in the plan alone.
 use Rattle.std.specs.Prelude.{◌≡◌, ◌⊎◌, ℕ, List, ◌++◌, None, Ok, false, codes}
 use Rattle.event_words.specs.Sections.{SectionOf, IsValidSection}
 use Rattle.script_reader.specs.Scripts.{ScriptOf}
@@ -7,15 +7,11 @@ use Rattle.script_reader.specs.Canonical.{with_lane, text_before_end}
 use Rattle.script_reader.specs.Printed.{lane_text}
 use Rattle.policy_compiler.specs.Needs.{need_refusal}
 use Rattle.policy_compiler.specs.Images.{image_of}
-use Rattle.update_planner.specs.Plans.{plan_commands}
 use Rattle.update_planner.specs.Refusals.{plan_refusal}
-use Rattle.update_planner.specs.Gives.{section_with}
 use Rattle.iopmp_program.specs.CompileCommand.{image_script}
+use Rattle.iopmp_program.specs.declared.inputs.update.WhichPlan.{WhichPlan}
 use Rattle.iopmp_program.specs.UpdateInputs.{UpdateOf, OfUpdate, IsNoUpdate, HasNoPlan}
-
--- the commands that take a unit from the old policy's image to the new one's
-abbrev pub plan_section : UpdateOf → SectionOf
-plan_section u = section_with (plan_commands (image_of u.old) (image_of u.new) u.polls)
+use Rattle.iopmp_program.specs.UpdatePlans.{wanted_section}
 
 -- ---- of an update
 
@@ -41,8 +37,8 @@ pub record Plans (wanted : SectionOf) (u : UpdateOf) (section : SectionOf) : Typ
 
 -- ---- of an input
 
-abbrev pub IsPlanned : List ℕ → List ℕ → Type 0
-IsPlanned bytes text = OfUpdate false (λ u. IsPlanText (plan_section u) u text) bytes
+abbrev pub IsPlanned : WhichPlan → List ℕ → List ℕ → Type 0
+IsPlanned which bytes text = OfUpdate false (λ u. IsPlanText (wanted_section which u) u text) bytes
 
 abbrev pub IsNotPlanned : List ℕ → List ℕ → Type 0
 IsNotPlanned bytes line = IsNoUpdate false bytes line ⊎ OfUpdate false (λ u. HasNoPlan u line) bytes

@@ -4,25 +4,21 @@ ghost use Rattle.iopmp_program.specs.CommandTables.{Answers};
 
 mod audit;
 mod compile;
-mod faults;
 mod generate;
 mod live;
-mod narrow;
-mod narrow_live;
 mod plan;
 mod run;
 mod soak;
 
 use crate::answer::{Answer, NoAnswer};
+use crate::inputs::update::WhichPlan;
+use crate::playing::reported::WhichReport;
 use crate::subcommand::Subcommand;
 use audit::audit_answer;
 use checker_workers::Gate;
 use compile::compile_answer;
-use faults::faults_answer;
 use generate::gen_answer;
 use live::live_answer;
-use narrow::narrow_answer;
-use narrow_live::narrow_live_answer;
 use plan::plan_answer;
 use run::run_answer;
 use soak::soak_answer;
@@ -41,15 +37,15 @@ pub fn answer<R: Threads + Sync, G: Gate + Sync>(
     ensures { Answers command bytes.now result }
 {
     match command {
-        Subcommand::Run => run_answer(rt, alloc, bytes, gate),
+        Subcommand::Run => run_answer(rt, alloc, WhichReport::Plain, bytes, gate),
         Subcommand::Compile => compile_answer(alloc, bytes),
-        Subcommand::Plan => plan_answer(alloc, bytes),
-        Subcommand::Live => live_answer(rt, alloc, bytes, gate),
+        Subcommand::Plan => plan_answer(alloc, WhichPlan::Whole, bytes),
+        Subcommand::Live => live_answer(rt, alloc, WhichPlan::Whole, bytes, gate),
         Subcommand::Gen(number) => gen_answer(alloc, number),
         Subcommand::Soak(number) => soak_answer(rt, alloc, number, gate),
-        Subcommand::Faults => faults_answer(rt, alloc, bytes, gate),
+        Subcommand::Faults => run_answer(rt, alloc, WhichReport::WithFaults, bytes, gate),
         Subcommand::Audit => audit_answer(alloc, bytes),
-        Subcommand::Narrow => narrow_answer(alloc, bytes),
-        Subcommand::NarrowLive => narrow_live_answer(rt, alloc, bytes, gate),
+        Subcommand::Narrow => plan_answer(alloc, WhichPlan::Narrow, bytes),
+        Subcommand::NarrowLive => live_answer(rt, alloc, WhichPlan::Narrow, bytes, gate),
     }
 }

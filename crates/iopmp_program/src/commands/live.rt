@@ -1,18 +1,18 @@
-// The command `live`: the plan of an update is played beside lanes, and the report of the history is printed.
+// The commands `live` and `narrow live`: a plan of an update is played beside lanes, and the report of the history is
+// printed.
 ghost use Rattle.std.specs.Prelude.{◌≤◌, length};
-ghost use Rattle.history_laws.specs.Live.{KeepsPolicies};
 ghost use Rattle.iopmp_program.specs.UpdateInputs.{IsReadable};
-ghost use Rattle.iopmp_program.specs.PlanCommand.{plan_section};
+ghost use Rattle.iopmp_program.specs.UpdatePlans.{wanted_section, Keeps};
 ghost use Rattle.iopmp_program.specs.PlansBeside.{IsUpdateReport, IsUpdateLine};
 ghost use Rattle.iopmp_program.specs.AnswerForms.{ReportOf, GivesOr};
-ghost use Rattle.iopmp_program.specs.CommandTables.{Answers};
-ghost use Rattle.iopmp_program.specs.declared.subcommand.Subcommand.TheVariants as commands;
+ghost use Rattle.iopmp_program.specs.CommandTables.{Answers, live_command};
 
 use crate::answer::{Answer, NoAnswer};
-use crate::inputs::update::{Update, planned, two_policies};
+use crate::inputs::update::{Update, WhichPlan, planned, two_policies};
 use crate::playing::beside::played_beside;
 use checker_workers::Gate;
 use history_laws::law_live;
+use narrow_plans::law_narrow;
 use std::alloc::Global;
 use std::thread::Threads;
 
@@ -20,17 +20,19 @@ use std::thread::Threads;
 fn update_answer<R: Threads + Sync, G: Gate + Sync>(
     rt: &R,
     alloc: Global,
+    which: WhichPlan,
     update: &Update,
     gate: &G,
 ) -> Result<Answer, NoAnswer>
     requires { IsReadable update.now }
     ensures { GivesOr
-        (λ a. ReportOf (λ history text. IsUpdateReport KeepsPolicies (plan_section update.now) history text update.now)
+        (λ a. ReportOf (λ history text. IsUpdateReport (Keeps which) (wanted_section which update.now) history text update.now)
         a.status a.history a.text.items)
-        (IsUpdateLine (plan_section update.now) update.now) result }
+        (IsUpdateLine (wanted_section which update.now) update.now) result }
 {
     law_live();
-    let plan = match planned(alloc, update) {
+    law_narrow();
+    let plan = match planned(alloc, which, update) {
         Ok(plan) => plan,
         Err(refused) => return Err(refused),
     };
@@ -41,15 +43,16 @@ fn update_answer<R: Threads + Sync, G: Gate + Sync>(
 pub fn live_answer<R: Threads + Sync, G: Gate + Sync>(
     rt: &R,
     alloc: Global,
+    which: WhichPlan,
     bytes: &[u8],
     gate: &G,
 ) -> Result<Answer, NoAnswer>
     requires { length bytes.now ≤ 4194304 }
-    ensures { Answers commands.Live bytes.now result }
+    ensures { Answers (live_command which) bytes.now result }
 {
     let update = match two_policies(alloc, bytes, true) {
         Ok(update) => update,
         Err(refused) => return Err(refused),
     };
-    update_answer(rt, alloc, &update, gate)
+    update_answer(rt, alloc, which, &update, gate)
 }

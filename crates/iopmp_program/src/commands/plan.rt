@@ -1,14 +1,14 @@
-// The command `plan`: the plan from one policy to another is printed as a lane.
+// The commands `plan` and `narrow`: a plan from one policy to another is printed as a lane.
 ghost use Rattle.std.specs.Prelude.{◌≡◌, ◌++◌, ◌≤◌, length, IfOk, codes};
 ghost use Rattle.iopmp_program.specs.UpdateInputs.{IsReadable, HasNoPlan};
 ghost use Rattle.script_reader.specs.Printed.{lane_text};
-ghost use Rattle.iopmp_program.specs.PlanCommand.{plan_section, IsPlanText};
+ghost use Rattle.iopmp_program.specs.PlanCommand.{IsPlanText};
+ghost use Rattle.iopmp_program.specs.UpdatePlans.{wanted_section};
 ghost use Rattle.iopmp_program.specs.AnswerForms.{GivesOr};
-ghost use Rattle.iopmp_program.specs.CommandTables.{Answers};
-ghost use Rattle.iopmp_program.specs.declared.subcommand.Subcommand.TheVariants as commands;
+ghost use Rattle.iopmp_program.specs.CommandTables.{Answers, plan_command};
 
 use crate::answer::{Answer, NoAnswer, text_answer};
-use crate::inputs::update::{Update, planned, two_policies};
+use crate::inputs::update::{Update, WhichPlan, planned, two_policies};
 use crate::memory::NoMemory;
 use event_words::Section;
 use script_reader::print_lane;
@@ -23,7 +23,7 @@ fn with_end(text: Vec<u8>) -> Result<Vec<u8>, AllocError>
 }
 
 /// A plan printed as lane 1.
-pub fn lane_one(alloc: Global, plan: &Section) -> Result<Vec<u8>, NoMemory>
+fn lane_one(alloc: Global, plan: &Section) -> Result<Vec<u8>, NoMemory>
     ensures { IfOk result (λ text. text.items ≡ lane_text 1 plan.now ++ codes "end\n") }
 {
     let Ok(lane) = print_lane(alloc, 1, plan) else {
@@ -34,12 +34,12 @@ pub fn lane_one(alloc: Global, plan: &Section) -> Result<Vec<u8>, NoMemory>
 
 /// The printed plan of an update.
 #[tactic(auto, using(crate::proofs::ReadBack::plan_read_back))]
-fn plan_text(alloc: Global, update: &Update) -> Result<Vec<u8>, NoAnswer>
+fn plan_text(alloc: Global, which: WhichPlan, update: &Update) -> Result<Vec<u8>, NoAnswer>
     requires { IsReadable update.now }
-    ensures { GivesOr (λ text. IsPlanText (plan_section update.now) update.now text.items)
+    ensures { GivesOr (λ text. IsPlanText (wanted_section which update.now) update.now text.items)
         (HasNoPlan update.now) result }
 {
-    let section = match planned(alloc, update) {
+    let section = match planned(alloc, which, update) {
         Ok(section) => section,
         Err(refused) => return Err(refused),
     };
@@ -50,15 +50,15 @@ fn plan_text(alloc: Global, update: &Update) -> Result<Vec<u8>, NoAnswer>
 }
 
 /// The printed plan of the input's two policies.
-pub fn plan_answer(alloc: Global, bytes: &[u8]) -> Result<Answer, NoAnswer>
+pub fn plan_answer(alloc: Global, which: WhichPlan, bytes: &[u8]) -> Result<Answer, NoAnswer>
     requires { length bytes.now ≤ 4194304 }
-    ensures { Answers commands.Plan bytes.now result }
+    ensures { Answers (plan_command which) bytes.now result }
 {
     let update = match two_policies(alloc, bytes, false) {
         Ok(update) => update,
         Err(refused) => return Err(refused),
     };
-    match plan_text(alloc, &update) {
+    match plan_text(alloc, which, &update) {
         Ok(text) => Ok(text_answer(text)),
         Err(refused) => Err(refused),
     }

@@ -4,8 +4,8 @@ ghost use Rattle.std.specs.String.{string_bytes};
 ghost use Rattle.script_reader.specs.UpdateTexts.{update_text_at};
 ghost use Rattle.iopmp_program.specs.PlanLines as lines;
 ghost use Rattle.iopmp_program.specs.UpdateInputs.{IsUpdate, IsReadable, IsNoUpdate, IsMisheaded, HasNoPlan};
-ghost use Rattle.iopmp_program.specs.PlanCommand.{plan_section, Plans};
-ghost use Rattle.iopmp_program.specs.NarrowCommand.{narrow_section};
+ghost use Rattle.iopmp_program.specs.PlanCommand.{Plans};
+ghost use Rattle.iopmp_program.specs.UpdatePlans.{plan_section, narrow_section, wanted_section};
 ghost use Rattle.iopmp_program.specs.AnswerForms.{HasLine, GivesOr};
 
 use super::policies::policy;
@@ -38,6 +38,15 @@ impl Model for Update {
     ghost Value = { UpdateOf };
 
     ghost view = { λ u. record { old = u.old; new = u.new; polls = u.polls; lanes = u.lanes.items; first_line = u.first_line } };
+}
+
+/// Which plan takes a unit from one policy to the other.
+#[derive(Clone, Copy, Debug, PartialEq, Eq)]
+pub enum WhichPlan {
+    /// That under which all requesters stall.
+    Whole,
+    /// The narrow one, under which the affected requesters alone stall.
+    Narrow,
 }
 
 /// The parts of the input.
@@ -116,8 +125,7 @@ fn no_plan(alloc: Global, error: &PlanError) -> NoAnswer
     }
 }
 
-/// The plan of an update, as a section of commands.
-pub fn planned(alloc: Global, update: &Update) -> Result<Section, NoAnswer>
+fn whole_plan(alloc: Global, update: &Update) -> Result<Section, NoAnswer>
     requires { IsReadable update.now }
     ensures { GivesOr (Plans (plan_section update.now) update.now) (HasNoPlan update.now) result }
 {
@@ -127,13 +135,24 @@ pub fn planned(alloc: Global, update: &Update) -> Result<Section, NoAnswer>
     }
 }
 
-/// The narrow plan of an update, as a section of commands.
-pub fn narrowed(alloc: Global, update: &Update) -> Result<Section, NoAnswer>
+fn narrow_plan(alloc: Global, update: &Update) -> Result<Section, NoAnswer>
     requires { IsReadable update.now }
     ensures { GivesOr (Plans (narrow_section update.now) update.now) (HasNoPlan update.now) result }
 {
     match narrow(alloc, &update.old, &update.new, update.polls) {
         Ok(Plan { section }) => Ok(section),
         Err(error) => Err(no_plan(alloc, &error)),
+    }
+}
+
+/// The plan of an update that is wanted, as a section of commands.
+pub fn planned(alloc: Global, which: WhichPlan, update: &Update) -> Result<Section, NoAnswer>
+    requires { IsReadable update.now }
+    ensures { GivesOr (Plans (wanted_section which update.now) update.now)
+        (HasNoPlan update.now) result }
+{
+    match which {
+        WhichPlan::Whole => whole_plan(alloc, update),
+        WhichPlan::Narrow => narrow_plan(alloc, update),
     }
 }

@@ -10,7 +10,7 @@ ghost use Rattle.iopmp_program.specs.UpdateInputs.{IsReadable};
 ghost use Rattle.iopmp_program.specs.PlansBeside.{script_beside, IsPlayablePlan};
 ghost use Rattle.iopmp_program.specs.UpdateScripts.{IsLanesOr, IsAffordableOr, IsScriptOfUpdateOr, IsPlayedOr};
 
-use super::reported::played;
+use super::reported::{WhichReport, played};
 use crate::answer::{Answer, NoAnswer};
 use crate::images::image_section;
 use crate::inputs::update::Update;
@@ -138,7 +138,7 @@ pub fn played_beside<R: Threads + Sync, G: Gate + Sync>(
         Ok(script) => script,
         Err(refused) => return Err(refused),
     };
-    match played(rt, alloc, &script, gate) {
+    match played(rt, alloc, WhichReport::Plain, &script, gate) {
         Ok(answer) => Ok(answer),
         Err(_) => Err(NoAnswer::NoMemory),
     }

@@ -1,8 +1,9 @@
 // A script that is played, and what is told of its history.
-ghost use Rattle.std.specs.Prelude.{◌≤◌, IfOk};
+ghost use Rattle.std.specs.Prelude.{◌≤◌, IfOk, length};
+ghost use Rattle.std.specs.List.{AllByRecursion};
+ghost use Rattle.event_words.specs.Runs.{IsEventWord};
 ghost use Rattle.script_reader.specs.Scripts.{IsWellFormedScript, need_of};
-ghost use Rattle.iopmp_program.specs.ReportedRuns.{IsRun};
-ghost use Rattle.iopmp_program.specs.FaultsCommand.{IsFaultsRun};
+ghost use Rattle.iopmp_program.specs.FaultsCommand.{IsTextOf, IsRunOf};
 ghost use Rattle.iopmp_program.specs.AnswerForms.{ReportOf};
 
 use super::play;
@@ -16,41 +17,49 @@ use script_reader::Script;
 use std::alloc::Global;
 use std::thread::Threads;
 
-/// Plays a script, and writes the report of its history.
+/// Which report is wanted of a history.
+#[derive(Clone, Copy, Debug, PartialEq, Eq)]
+pub enum WhichReport {
+    /// Its events, how its sections end, and what its units keep.
+    Plain,
+    /// The same, and the windows of later violations.
+    WithFaults,
+}
+
+fn text_of(
+    alloc: Global,
+    which: WhichReport,
+    script: &Script,
+    words: &[u64],
+) -> Result<Vec<u8>, NoMemory>
+    requires formed { IsWellFormedScript script.now }
+    requires few { length words.now ≤ 1048576 }
+    requires words { AllByRecursion IsEventWord words.now }
+    ensures { IfOk result (λ text. IsTextOf which script.now words.now text.items) }
+{
+    match which {
+        WhichReport::Plain => report(alloc, script, words),
+        WhichReport::WithFaults => faults_report(alloc, script, words),
+    }
+}
+
+/// Plays a script, and writes the report that is wanted of its history.
 pub fn played<R: Threads + Sync, G: Gate + Sync>(
     rt: &R,
     alloc: Global,
+    which: WhichReport,
     script: &Script,
     gate: &G,
 ) -> Result<Answer, NoMemory>
     requires formed { IsWellFormedScript script.now }
     requires few { need_of script.now ≤ 1048576 }
-    ensures { IfOk result (λ a. ReportOf (IsRun script.now) a.status a.history a.text.items) }
-{
-    law_kept();
-    law_one_history();
-    law_reports();
-    let history = play(rt, alloc, script, gate)?;
-    let text = report(alloc, script, history.words())?;
-    Ok(report_answer(history, text))
-}
-
-/// Plays a script, and writes the report of its history with the windows of later violations.
-pub fn played_with_faults<R: Threads + Sync, G: Gate + Sync>(
-    rt: &R,
-    alloc: Global,
-    script: &Script,
-    gate: &G,
-) -> Result<Answer, NoMemory>
-    requires formed { IsWellFormedScript script.now }
-    requires few { need_of script.now ≤ 1048576 }
-    ensures { IfOk result (λ a. ReportOf (IsFaultsRun script.now) a.status a.history a.text.items) }
+    ensures { IfOk result (λ a. ReportOf (IsRunOf which script.now) a.status a.history a.text.items) }
 {
     law_kept();
     law_one_history();
     law_reports();
     law_faults();
     let history = play(rt, alloc, script, gate)?;
-    let text = faults_report(alloc, script, history.words())?;
+    let text = text_of(alloc, which, script, history.words())?;
     Ok(report_answer(history, text))
 }

@@ -1,15 +1,13 @@
 -- No two policies, or no plan from one to the other.
-use Rattle.iopmp_program.specs.PlanCommand.{IsPlanned}
-use Rattle.iopmp_program.proofs.CommandAnswers.{printed, no_update_planned, no_plan_refused}
+use Rattle.iopmp_program.proofs.CommandAnswers.{plan_printed, no_update_planned, no_plan_refused}
 use Rattle.iopmp_program.proofs.commands.plan.plan_answer.Goals as goal
 
 pub returns-in-Err : goal.returns-in-Err
-returns-in-Err c = no_update_planned c.args.bytes.now c.in-Err.refused c.in-Err.ensures.update
+returns-in-Err c = no_update_planned c.args.which c.args.bytes.now c.in-Err.refused c.in-Err.ensures.update
 
 pub returns : goal.returns
-returns c = no_plan_refused c.args.bytes.now c.in-Ok.update c.in-Err-plan_text.refused c.in-Ok.ensures.update c.in-Err-plan_text.ensures
+returns c = no_plan_refused c.args.which c.args.bytes.now c.in-Ok.update c.in-Err-plan_text.refused c.in-Ok.ensures.update c.in-Err-plan_text.ensures
 
 pub returns-in-Ok-plan_text : goal.returns-in-Ok-plan_text
 returns-in-Ok-plan_text c =
-    printed (IsPlanned c.args.bytes.now) c.text_answer.result c.in-Ok-plan_text.text c.text_answer.ensures
-    (record { update = c.in-Ok.update; stands_for = c.in-Ok.ensures.update; is = c.in-Ok-plan_text.ensures })
+    plan_printed c.args.which c.args.bytes.now c.in-Ok.update c.text_answer.result c.in-Ok-plan_text.text c.in-Ok.ensures.update c.text_answer.ensures c.in-Ok-plan_text.ensures

@@ -1,14 +1,19 @@
--- The history is legal, and the text is its report.
-use Rattle.std.proofs.Common.{◌∙◌, ap}
-use Rattle.iopmp_program.specs.ReportedRuns.{IsRun}
+-- The history is legal, and the text is the report that is wanted of it.
+use Rattle.std.proofs.Common.{sym, subst}
+use Rattle.std.specs.List.{AllByRecursion}
+use Rattle.event_words.specs.Runs.{IsEventWord}
+use Rattle.iopmp_program.specs.FaultsCommand.{IsRunOf}
 use Rattle.iopmp_program.proofs.CommandAnswers.{told}
-use Rattle.iopmp_program.proofs.ToldRuns.{report_of, is_run}
+use Rattle.iopmp_program.proofs.ToldRuns.{is_run_of}
 use Rattle.iopmp_program.proofs.playing.reported.played.Goals as goal
+
+pub text_of-requires-clause-words : goal.text_of-requires-clause-words
+text_of-requires-clause-words g c = subst (AllByRecursion IsEventWord) (sym c.words.ensures) c.in_ok-history.ensures.legal.events
 
 pub returns : goal.returns
 returns g c =
     let script = c.args.script.now in
     let history = c.in_ok-history.history in
-    told (IsRun script) c.report_answer.result history c.in_ok-text.text c.report_answer.ensures
-    (is_run c.law_kept.ensures c.law_one_history.ensures c.law_reports.ensures script history c.in_ok-text.text.items c.requires.formed.shapes c.in_ok-history.ensures.legal
-    (c.in_ok-text.ensures ∙ ap (report_of script) c.words.ensures))
+    told (IsRunOf c.args.which script) c.report_answer.result history c.in_ok-text.text c.report_answer.ensures
+    (is_run_of c.law_kept.ensures c.law_one_history.ensures c.law_reports.ensures c.law_faults.ensures c.args.which script history c.words.result.now c.in_ok-text.text.items c.requires.formed.shapes
+    c.in_ok-history.ensures.legal c.words.ensures c.in_ok-text.ensures)
