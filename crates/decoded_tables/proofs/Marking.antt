@@ -1,28 +1,17 @@
 -- Marks of entries in rows of addresses.
-use Rattle.std.proofs.Common.{[], ◌≡◌, ◌≢◌, ℕ, suc, zero, pow-add, take, drop, ◌++◌, ◌+◌, ◌-◌, ◌*◌, ◌/◌, ◌%◌, ◌^◌, ◌<◌, ◌≤◌, Bool, true, false, List, Option, Some, None, find, min, max, bit_or, bit_and, length, slice_index_or, slice_set, w64, arith, refl, sym, ap, ◌∙◌, ⊎_elim, subst}
+use Rattle.std.proofs.Common.{◌≡◌, ◌≢◌, ℕ, suc, zero, pow-add, take, drop, ◌++◌, ◌+◌, ◌-◌, ◌*◌, ◌/◌, ◌%◌, ◌^◌, ◌<◌, ◌≤◌, Bool, true, false, List, Option, None, max, bit_or, bit_and, length, slice_index_or, slice_set, w64, arith, refl, sym, ap, ◌∙◌, ⊎_elim, subst}
 use Rattle.std.specs.Int.{bit_at, trailing_zeros}
-use Rattle.std.specs.List.{range_with_len, list_any, list_all}
+use Rattle.std.specs.List.{range_with_len, list_any}
 use Rattle.std.proofs.Math.Seq.{take-append_seam}
 use Rattle.std.proofs.Math.Nat.{div-div-eq-div-mul, div-le_self}
 use Rattle.std.proofs.lemmas.Bool.{cases_eq, cases_lt}
 use Rattle.std.proofs.lemmas.List.{get_or-set_same, get_or-set_other, length-set}
 use Rattle.std.proofs.lemmas.Nat.Bits.{bit_at_or, bit_at-lt, bit_at_set_same, bit_at_set_other, bit_at_clear_other, bit_at-trailing_zeros, bit_at-zero, bit_at_above}
-use Rattle.std.proofs.Math.Bool.{and-false}
 use Rattle.event_words.specs.declared.access.Access.{Access}
-use Rattle.event_words.specs.Registers.{Registers}
-use Rattle.event_words.specs.Entries.{touches, covers}
-use Rattle.event_words.specs.Domains.{owner_of, is_associated}
-use Rattle.event_words.specs.Decisions.{prio_count, is_touching, is_covering, covering}
-use Rattle.event_words.proofs.Cases.{by_test}
-use Rattle.event_words.proofs.Ranges.{none_any}
 use Rattle.entry_ranges.specs.declared.ByteRange.{ByteRange}
-use Rattle.mdcfg_formats.proofs.Searches.{find_later}
-use Rattle.decoded_tables.specs.Standing.{range_at, StandsFor, is_in, is_touched, is_covered}
-use Rattle.decoded_tables.specs.Walking.{covering_below}
+use Rattle.event_words.proofs.Cases.{by_test}
+use Rattle.decoded_tables.specs.Standing.{range_at, is_in, is_touched}
 use Rattle.decoded_tables.specs.Marks.{row_of, IsMarked, MarksFor}
-use Rattle.decoded_tables.proofs.Ranges.{touched_here, covered_here}
-use Rattle.decoded_tables.proofs.Scans.{filter_between}
-use Rattle.decoded_tables.proofs.Walks.{entry_own, own_covering, cover_start}
 
 abbrev marked_word : ℕ → ℕ → ℕ
 marked_word word bit = bit_or word (1 * 2 ^ bit % 18446744073709551616)
@@ -133,20 +122,12 @@ unset_all word from group start j e low h g l none =
       ap (bit_at word) (sym place) ∙ (sym (shifted word shift (j - start)) ∙ (ap (λ n. bit_at n (j - start)) none ∙ bit_at-zero (j - start))),
     )
 
--- None of these entries is marked in a row of the transaction.
-abbrev pub NoneMarked : List ℕ → Access → ℕ → ℕ → Type 0
-NoneMarked marks a from to = (j x : ℕ) → from ≤ j → j < to → a.addr ≤ x → x < a.addr + a.len → IsMarked marks j (row_of x) → ⊥
-
--- None before a group is, and those of the group up to `to` aren't where its word has no bit of theirs.
-pub none_through : (marks : List ℕ) (a : Access) (word from group to : ℕ) → NoneMarked marks a from (group * 64)
-    → ((j x : ℕ) → j / 64 ≡ group → a.addr ≤ x → x < a.addr + a.len → IsMarked marks j (row_of x) → bit_at word (j % 64) ≡ 1)
-    → ((j : ℕ) → from ≤ j → group * 64 ≤ j → j < to → (j / 64 ≡ group) × (bit_at word (j % 64) ≡ 0)) → NoneMarked marks a from to
-none_through marks a word from group to before bits unset j x h l lo hi t = ⊎_elim
-    (λ (s : j < group * 64). before j x h s lo hi t)
-    (λ (s : group * 64 ≤ j). let u = unset j h s l in omega (arith, u.1, bits j x u.0 lo hi t))
-    (cases_lt j (group * 64))
-
 -- ---- what an entry without a mark in the rows of a transaction is
+
+none_any : (p : ℕ → Bool) (a n : ℕ) → ((x : ℕ) → a ≤ x → x < a + n → p x ≡ false) → list_any p (range_with_len a n) ≡ false
+none_any p a zero h = refl
+none_any p a (suc n) h =
+    rw (h a (omega arith) (omega arith)) (none_any p (a + 1) n (λ x y z. h x (omega arith) (omega arith)))
 
 pub untouched : (marks : List ℕ) (ranges : List (Option ByteRange)) (a : Access) (j : ℕ) → MarksFor marks ranges → j < length ranges
     → ((x : ℕ) → a.addr ≤ x → x < a.addr + a.len → IsMarked marks j (row_of x) → ⊥) → is_touched ranges a j ≡ false
@@ -154,37 +135,6 @@ untouched marks ranges a j h inside none =
     none_any (is_in (range_at ranges j)) a.addr a.len (λ x lo hi. by_test (is_in (range_at ranges j) x) _
     (λ t. absurd (none x lo hi (h.each j x inside t)))
     (λ t. t))
-
-none_all : (p : ℕ → Bool) (a n : ℕ) → 1 ≤ n → list_any p (range_with_len a n) ≡ false → list_all p (range_with_len a n) ≡ false
-none_all p a zero h t = absurd (omega arith)
-none_all p a (suc n) h t = by_test (p a) _
-    (λ y. let q : true ≡ false = rw y at t in absurd (cc))
-    (λ y. rw y refl)
-
-pub uncovered : (ranges : List (Option ByteRange)) (a : Access) (j : ℕ) → 1 ≤ a.len → is_touched ranges a j ≡ false → is_covered ranges a j ≡ false
-uncovered ranges a j h t = none_all (is_in (range_at ranges j)) a.addr a.len h t
-
--- ---- searches that pass such entries
-
-skip : (p : ℕ → Bool) (i d n : ℕ) → i + d ≤ n → ((j : ℕ) → i ≤ j → j < i + d → p j ≡ false) → find p (range_with_len (i + d) (n - (i + d))) ≡ find p (range_with_len i (n - i))
-skip p i zero n h none =
-    let e : i + 0 ≡ i = omega arith in ap (λ k. find p (range_with_len k (n - k))) e
-skip p i (suc d) n h none =
-    let e : i + suc d ≡ (i + 1) + d = omega arith in
-    ap (λ k. find p (range_with_len k (n - k))) e
-    ∙ (skip p (i + 1) d n (omega arith) (λ j x y. none j (omega arith) (omega arith))
-    ∙ find_later p i n (find p (range_with_len i (n - i))) (omega arith) refl (none i (omega arith) (omega arith)))
-
-pub find_skip : (p : ℕ → Bool) (i k n : ℕ) → i ≤ k → k ≤ n → ((j : ℕ) → i ≤ j → j < k → p j ≡ false) → find p (range_with_len k (n - k)) ≡ find p (range_with_len i (n - i))
-find_skip p i k n h l none =
-    let e : i + (k - i) ≡ k = omega arith in
-    subst (λ m. find p (range_with_len m (n - m)) ≡ find p (range_with_len i (n - i))) e (skip p i (k - i) n (omega arith) (λ j x y. none j x (omega arith)))
-
-pub cover_skip : (ranges : List (Option ByteRange)) (r : Registers) (a : Access) (d i k : ℕ) → StandsFor ranges r → 1 ≤ a.len → i ≤ k → k ≤ r.shape.entries → min (prio_count r) r.shape.entries ≤ i → is_associated r a.rrid d ≡ true
-    → ((j : ℕ) → i ≤ j → j < k → owner_of r j ≡ Some d) → ((j : ℕ) → i ≤ j → j < k → is_touched ranges a j ≡ false) → covering_below r a k ≡ covering_below r a i
-cover_skip ranges r a d i k stands some h l p own run none =
-    filter_between (is_covering r a) i k h (λ j x y.
-    own_covering r a j false (omega arith) (entry_own r a.rrid d j (run j x y) own) (covered_here ranges r a j (stands.each j (omega arith)) ∙ uncovered ranges a j some (none j x y)))
 
 -- ---- one entry anew
 
@@ -205,19 +155,3 @@ remarked old mid now ranges e o h marks l m cleared marked kept =
 -- what a slice of all items of a `Vec` leaves there
 pub whole : (n : ℕ) (xs ys : List ℕ) → length xs ≡ n → take n (xs ++ drop (length xs) ys) ≡ xs
 whole n xs ys e = subst (λ k. take k (xs ++ drop (length xs) ys) ≡ xs) e (take-append_seam xs (drop (length xs) ys))
-
--- ---- where no entry has a mark in the rows of a transaction
-
-pub none_touching : (ranges : List (Option ByteRange)) (r : Registers) (a : Access) (n : ℕ) → StandsFor ranges r → n ≤ r.shape.entries → ((j : ℕ) → 0 ≤ j → j < n → is_touched ranges a j ≡ false)
-    → (m : ℕ) → m < n → is_touching r a m ≡ false
-none_touching ranges r a n stands h none m l =
-    let t : touches r m a ≡ false = touched_here ranges r a m (stands.each m (omega arith)) ∙ none m (omega arith) l in
-    rw (t, and-false, and-false) refl
-
-pub none_covering : (ranges : List (Option ByteRange)) (r : Registers) (a : Access) (from : ℕ) → StandsFor ranges r → 1 ≤ a.len → from ≤ r.shape.entries → from ≤ prio_count r
-    → ((j : ℕ) → from ≤ j → j < r.shape.entries → is_touched ranges a j ≡ false) → covering r a ≡ []
-none_covering ranges r a from stands some h l none =
-    filter_between (is_covering r a) from r.shape.entries h (λ j x y.
-    let t : covers r j a ≡ false = covered_here ranges r a j (stands.each j y) ∙ uncovered ranges a j some (none j x y) in
-    rw (t, and-false, and-false) refl)
-    ∙ cover_start r a from l

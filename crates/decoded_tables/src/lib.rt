@@ -4,7 +4,8 @@
 //! A [`Decoded`] has one optional range per entry. It stands for the registers that it was made of:
 //! item i has exactly the bytes of entry i. After a register write, [`Decoded::refresh`] decodes anew
 //! only the entries that the written register can change, and the value stands for the new registers.
-//! [`Decoded::decide`] walks the domains of the requester and looks at the ranges of their entries alone.
+//! [`Decoded::decide`] walks the entries that may have a byte of the transaction, and of these looks at the
+//! ranges of the requester's alone.
 #![tactic(auto)]
 
 mod changes;
