@@ -17,6 +17,7 @@ pub enum FieldValue {
     ReadOnly,
 }
 
+#[inline(always)]
 fn bits_of(low: u8, width: u8, word: u32) -> u32
     requires { low + width ≤ 32 }
     ensures value { result ≡ bits_of low width word }
@@ -25,6 +26,7 @@ fn bits_of(low: u8, width: u8, word: u32) -> u32
     ((word as u64 >> low) % (1 << width)) as u32
 }
 
+#[inline(always)]
 fn ruled(rule: Rule, old: u32, new: u32) -> u32
     ensures value { result ≡ ruled rule old new }
     ensures small { (width : ℕ) → old < 2 ^ width → new < 2 ^ width → result < 2 ^ width }
@@ -39,6 +41,7 @@ fn ruled(rule: Rule, old: u32, new: u32) -> u32
 }
 
 /// What a field adds, before it is moved to its place.
+#[inline(always)]
 fn number_of(which: FieldValue, field: &Field) -> u64
     requires { IsField field.now }
     ensures value { result * 2 ^ field.now.low ≡ field_value which field.now }
@@ -61,6 +64,7 @@ fn number_of(which: FieldValue, field: &Field) -> u64
 }
 
 /// What a field adds.
+#[inline(always)]
 fn field_value(which: FieldValue, field: &Field) -> u32
     requires { IsField field.now }
     ensures value { result ≡ field_value which field.now }
@@ -70,6 +74,7 @@ fn field_value(which: FieldValue, field: &Field) -> u32
 }
 
 /// The sum over a register's fields.
+#[inline(always)]
 fn sum_of(fields: &[Field], which: FieldValue) -> u32
     requires { IsTable fields.now }
     ensures { result ≡ sum_by (field_value which) fields.now }
@@ -81,6 +86,7 @@ fn sum_of(fields: &[Field], which: FieldValue) -> u32
     sum
 }
 
+#[inline(always)]
 const fn field(low: u8, width: u8, rule: Rule, reset: u32) -> Field
     ensures { result ≡ record { low = low; width = width; rule = rule; reset = reset } }
 {
@@ -93,6 +99,7 @@ const fn field(low: u8, width: u8, rule: Rule, reset: u32) -> Field
 }
 
 /// The sum over one field that begins at bit 0.
+#[inline(always)]
 fn from_zero(width: u8, rule: Rule, which: FieldValue) -> u32
     requires { width ≤ 32 }
     ensures { result ≡ sum_by (field_value which) (field 0 width rule 0 ∷ []) }
@@ -101,6 +108,7 @@ fn from_zero(width: u8, rule: Rule, which: FieldValue) -> u32
 }
 
 /// The sum over one field that begins at bit 1.
+#[inline(always)]
 fn from_one(width: u8, rule: Rule, which: FieldValue) -> u32
     requires { width ≤ 31 }
     ensures { result ≡ sum_by (field_value which) (field 1 width rule 0 ∷ []) }
@@ -109,6 +117,7 @@ fn from_one(width: u8, rule: Rule, which: FieldValue) -> u32
 }
 
 /// The sum over a lock bit and the field above it.
+#[inline(always)]
 fn with_lock(width: u8, rule: Rule, which: FieldValue) -> u32
     requires { width ≤ 31 }
     ensures { result ≡ sum_by (field_value which) (field 0 1 Rule.SetOnly 0 ∷ field 1 width rule 0 ∷ []) }
@@ -120,6 +129,7 @@ fn with_lock(width: u8, rule: Rule, which: FieldValue) -> u32
 }
 
 /// The sum over the fields of a register of this shape.
+#[inline(always)]
 pub fn sum_of_register(shape: &Shape, register: Register, which: FieldValue) -> u32
     requires shape { IsValidShape shape.now }
     requires there { IsTrue (has_register shape.now register) }
@@ -157,6 +167,7 @@ pub fn sum_of_register(shape: &Shape, register: Register, which: FieldValue) -> 
     }
 }
 
+#[inline(always)]
 fn sum_of_hwcfg1(shape: &Shape, which: FieldValue) -> u32
     requires { IsValidShape shape.now }
     ensures { result ≡ sum_by (field_value which) (fields_of shape.now Register.Hwcfg1) }
@@ -170,6 +181,7 @@ fn sum_of_hwcfg1(shape: &Shape, which: FieldValue) -> u32
     )
 }
 
+#[inline(always)]
 fn sum_of_hwcfg2(shape: &Shape, which: FieldValue) -> u32
     requires { IsValidShape shape.now }
     ensures { result ≡ sum_by (field_value which) (fields_of shape.now Register.Hwcfg2) }
@@ -183,6 +195,7 @@ fn sum_of_hwcfg2(shape: &Shape, which: FieldValue) -> u32
     )
 }
 
+#[inline(always)]
 fn sum_of_err_reqid(which: FieldValue) -> u32
     ensures { (h : Shape) → result ≡ sum_by (field_value which) (fields_of h Register.ErrReqid) }
 {
@@ -195,6 +208,7 @@ fn sum_of_err_reqid(which: FieldValue) -> u32
     )
 }
 
+#[inline(always)]
 fn sum_of_hwcfg0(shape: &Shape, which: FieldValue) -> u32
     requires { IsValidShape shape.now }
     ensures { result ≡ sum_by (field_value which) (fields_of shape.now Register.Hwcfg0) }
@@ -219,6 +233,7 @@ fn sum_of_hwcfg0(shape: &Shape, which: FieldValue) -> u32
     )
 }
 
+#[inline(always)]
 fn sum_of_err_cfg(which: FieldValue) -> u32
     ensures { (h : Shape) → result ≡ sum_by (field_value which) (fields_of h Register.ErrCfg) }
 {
@@ -233,6 +248,7 @@ fn sum_of_err_cfg(which: FieldValue) -> u32
     )
 }
 
+#[inline(always)]
 fn sum_of_err_info(which: FieldValue) -> u32
     ensures { (h : Shape) → result ≡ sum_by (field_value which) (fields_of h Register.ErrInfo) }
 {
@@ -246,6 +262,7 @@ fn sum_of_err_info(which: FieldValue) -> u32
     )
 }
 
+#[inline(always)]
 fn sum_of_entry_cfg(which: FieldValue) -> u32
     ensures { (h : Shape) (n : ℕ) → result ≡ sum_by (field_value which) (fields_of h (Register.EntryCfg n)) }
 {

@@ -6,6 +6,7 @@ ghost use Rattle.register_fields.specs.Places.{IsRegisterAt};
 
 use event_words::{Register, Shape};
 
+#[inline(always)]
 fn scalar_at(index: u32) -> Option<Register>
     ensures { result ≡ scalar_at index }
 {
@@ -29,6 +30,7 @@ fn scalar_at(index: u32) -> Option<Register>
     }
 }
 
+#[inline(always)]
 fn srcmd_at(shape: &Shape, row: u32, place: u32) -> Option<Register>
     ensures { result ≡ srcmd_at shape.now row place }
 {
@@ -46,6 +48,7 @@ fn srcmd_at(shape: &Shape, row: u32, place: u32) -> Option<Register>
     }
 }
 
+#[inline(always)]
 fn entry_at(row: u32, place: u32) -> Option<Register>
     ensures { result ≡ entry_at row place }
 {
@@ -57,6 +60,7 @@ fn entry_at(row: u32, place: u32) -> Option<Register>
     }
 }
 
+#[inline(always)]
 fn named_at(shape: &Shape, index: u32) -> Option<Register>
     ensures { result ≡ named_at shape.now index }
 {
@@ -71,6 +75,7 @@ fn named_at(shape: &Shape, index: u32) -> Option<Register>
     }
 }
 
+#[inline(always)]
 fn has_register(shape: &Shape, register: Register) -> bool
     ensures { result ≡ has_register shape.now register }
 {
@@ -95,6 +100,7 @@ fn has_register(shape: &Shape, register: Register) -> bool
 
 /// The register at an index (a byte offset divided by 4) of a unit of this shape. `None` where the
 /// offset is no register, or one of a domain, requester or entry that the shape doesn't have.
+#[inline(always)]
 pub fn register_at(shape: &Shape, index: u32) -> Option<Register>
     ensures value { result ≡ register_at shape.now index }
     ensures inside { OnSome result (index < index_count shape.now) }

@@ -38,6 +38,7 @@ pub fn joined(low: u32, high: u32) -> u64
 }
 
 /// The words at reset, by index.
+#[inline(always)]
 fn reset_word(shape: &Shape, index: u32) -> u32
     requires { IsValidShape shape.now }
     ensures { result ≡ reset_word shape.now index }
@@ -53,8 +54,9 @@ fn reset_words(alloc: Global, shape: &Shape) -> Result<Vec<u32>, AllocError>
     ensures words { IfOk result (λ v. v.items ≡ map (reset_word shape.now) (range_with_len 0 (index_count shape.now))) }
     ensures len { IfOk result (λ v. length v.items ≡ index_count shape.now) }
 {
-    let mut words = Vec::new(alloc);
-    for index in 0..2048 + 4 * shape.entries as u32 {
+    let count = 2048 + 4 * shape.entries as u32;
+    let mut words = Vec::with_capacity(alloc, count as usize)?;
+    for index in 0..count {
         words.push(reset_word(shape, index))?;
     }
     Ok(words)
