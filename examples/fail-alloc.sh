@@ -1,14 +1,14 @@
 #!/bin/sh
-# Refuses each allocation of the program in turn, before any proof, in runs of four inputs: an access at
-# the end of a range, a full stall queue, an image and a plan. Each run must end with status 6 and nothing
-# written, or with status 0 and the whole output. It prints a line for each number, and is done after
-# ten numbers in a row at which no run is refused. Each number builds the program anew, which takes
-# most of its time.
-#   fail-alloc.sh [FIRST [LAST [STEP]]]     the numbers from FIRST, 1 if left out, to LAST, each STEPth
+# Refuses each allocation of the program in turn, in runs of four inputs: an access at the end of a range, a full stall
+# queue, an image and a plan. Each run must end with status 6 and nothing written, or with status 0 and the whole
+# output. It prints a line for each run that doesn't, and at the end one that counts.
+#
+# The program is the proved one: $IOPMP, or else what ./iopmp builds. fail-alloc.c, which `cc` compiles, stands before
+# the C library in it, and refuses the one call for memory that is to fail. An input's numbers begin at 1 and end where
+# a run makes fewer calls. Where there is no `cc`, a line says that nothing was tried.
+#   fail-alloc.sh            all numbers, in a second or two
+#   fail-alloc.sh --kit N    the Nth alone, in the kit's own build, unproved, which takes most of a minute
 top=$(cd "$(dirname "$0")/.." && pwd) || exit 2
-first=${1:-1}
-last=${2:-1000000}
-step=${3:-1}
 folder=$(mktemp -d) || exit 2
 trap 'rm -rf "$folder"' EXIT
 cases=$folder/cases
@@ -137,25 +137,68 @@ end
 END
 add plan plan
 
-cd "$top/crates/iopmp" || exit 2
-bad=0
-whole=0
-number=$first
-while [ "$number" -le "$last" ] && [ "$whole" -lt 10 ]; do
-  rt try --fail-alloc "$number" --cases "$cases" >"$folder/out" 2>&1
-  # A refused run differs from its output, and has written nothing.
+# The last line, which says what was tried, and whether nothing was bad.
+tell() {
+  echo "fail-alloc: $1: $refused runs refused with status 6 and nothing written, $whole whole, bad=$bad"
+  [ "$bad" -eq 0 ]
+}
+
+# The Nth allocation alone, in the kit's own build. A refused run differs from its output, and has written nothing.
+try_kit() {
+  cd "$top/crates/iopmp" || exit 2
+  rt try --fail-alloc "$1" --cases "$cases" >"$folder/out" 2>&1
   refused=$(grep -c ' run=ended status=6 .* output=differs' "$folder/out")
   silent=$(grep -c '^the output differs .* found ""$' "$folder/out")
-  completed=$(grep -c ' run=ended status=0 .* output=expected' "$folder/out")
-  if [ "$refused" -ne "$silent" ] || [ "$((refused + completed))" -ne 4 ]; then
-    echo "$number: BAD"
-    cat "$folder/out"
-    bad=$((bad + 1))
+  whole=$(grep -c ' run=ended status=0 .* output=expected' "$folder/out")
+  bad=$((4 - refused - whole))
+  [ "$refused" -eq "$silent" ] || bad=4
+  [ "$bad" -eq 0 ] || cat "$folder/out"
+  tell "the kit's build, number $1"
+}
+
+# Refuses an allocation of a case, and counts what comes of it. Whether the run made so many.
+try() {
+  timeout 60 env LD_PRELOAD="$folder/fail-alloc.so" FAIL_ALLOC="$2" "$program" "$(cat "$cases/$1.args")" \
+    <"$cases/$1" >"$folder/written" 2>"$folder/told"
+  status=$?
+  told=
+  read -r told <"$folder/told"
+  if [ "$status" -eq 0 ] && cmp -s "$folder/written" "$cases/$1.stdout"; then
+    [ "$told" != refused ] || whole=$((whole + 1))
+  elif [ "$status" -eq 6 ] && [ "$told" = refused ] && [ ! -s "$folder/written" ]; then
+    refused=$((refused + 1))
   else
-    echo "$number: $refused refused, $completed whole"
+    echo "fail-alloc: BAD: $1, number $2: status $status, $(wc -c <"$folder/written") bytes written"
+    cat "$folder/told"
+    bad=$((bad + 1))
   fi
-  if [ "$completed" -eq 4 ]; then whole=$((whole + 1)); else whole=0; fi
-  number=$((number + step))
+  [ "$told" = refused ]
+}
+
+if [ "${1:-}" = --kit ]; then
+  try_kit "${2:?the number}"
+  exit
+fi
+if ! command -v cc >/dev/null; then
+  echo "fail-alloc: SKIPPED: there is no cc on the path, so no allocation was refused"
+  exit 0
+fi
+cc -O2 -Wall -shared -fPIC -o "$folder/fail-alloc.so" "$top/examples/fail-alloc.c" || exit 2
+# ./iopmp builds its program where that is due.
+[ -n "${IOPMP:-}" ] || "$top/iopmp" run <"$cases/access" >"$folder/written" || exit 2
+program=$(readlink -f "${IOPMP:-$top/out/iopmp}")
+if [ "$(head -c 2 "$program")" = '#!' ]; then
+  echo "fail-alloc: $program is a script, whose shell would be refused memory: IOPMP is to be the program itself"
+  exit 2
+fi
+most=0 refused=0 whole=0 bad=0
+for name in access queue image plan; do
+  number=1
+  while try "$name" "$number"; do number=$((number + 1)); done
+  if [ "$number" -eq 1 ]; then
+    echo "fail-alloc: BAD: $name: no allocation was refused"
+    bad=$((bad + 1))
+  fi
+  [ "$number" -le "$most" ] || most=$((number - 1))
 done
-echo "bad=$bad"
-[ "$bad" -eq 0 ]
+tell "numbers 1 to $most"
