@@ -4,18 +4,15 @@ use Rattle.std.specs.Prelude.{IsSome, IfSome}
 use Rattle.std.specs.List.{AllByRecursion}
 use Rattle.std.proofs.lemmas.Bool.{cases_eq, eq-eqb, ne_eqb}
 use Rattle.std.proofs.lemmas.List.{length-map}
-use Rattle.event_words.specs.declared.event.Event.{Event}
 use Rattle.event_words.specs.declared.record.LoggedEvent.{LoggedEvent}
 use Rattle.event_words.specs.declared.record.SectionEnd.{SectionEnd}
-use Rattle.event_words.specs.declared.section.Command.{Command}
-use Rattle.event_words.specs.declared.section.Command.TheVariants.{Write}
 use Rattle.event_words.specs.Events.{caller_of}
 use Rattle.event_words.specs.Records.{section_end, events_by}
 use Rattle.event_words.specs.Runs.{caller_of_word, IsEventWord, logged_from, logged_first}
 use Rattle.event_words.specs.Sections.{SectionOf, most_events, most_section_events}
 use Rattle.event_words.proofs.EventWords.{word_event}
-use Rattle.event_words.proofs.RecordCuts.{GoesOn, MayWrite, whole_record}
 use Rattle.event_words.proofs.Runs.{caller_of_word-word_of}
+use Rattle.event_words.proofs.RecordLengths.{record_length}
 use Rattle.script_reader.specs.Scripts.{ScriptOf, most_from, need_of}
 use Rattle.unit_core.specs.Fabrics.{state_after_word, reply_to_word}
 use Rattle.unit_core.specs.Histories.{HaveRecords, IsBoot, IsOfLane, IsLegalHistory, logged_in}
@@ -25,39 +22,12 @@ use Rattle.audit_reader.proofs.EqualLines.{as_many_lines}
 
 -- ---- a record is at most as long as its section
 
-abbrev IsAny : Event → Type 0
-IsAny e = Unit {0}
-
-abbrev Leaves : ℕ → List LoggedEvent → List LoggedEvent → Type 0
-Leaves n xs rest = length xs ≤ n + length rest
-
-lengths_go_on : GoesOn IsAny Leaves
-lengths_go_on = record {
-  none = λ xs. omega arith;
-  one = λ e q x xs t. omega arith;
-  both = λ m n xs ys zs p q. omega arith;
-  more = λ m n xs ys l p. omega arith;
-  read = λ u c i. tt;
-  submit = λ u c a. tt;
-  judge = λ u c p. tt;
-  aim = λ c a. tt;
-  wide = λ u c r k n. tt;
-}
-
-any_writes : (caller : ℕ) (cs : List Command) → AllByRecursion (MayWrite IsAny caller) cs
-any_writes caller [] = tt
-any_writes caller (c ∷ cs) = (any_write c, any_writes caller cs)
-  where
-    any_write : (c : Command) → MayWrite IsAny caller c
-    any_write (Write unit index value) = tt
-    any_write _ = tt
-
 record_short : (caller : ℕ) (s : SectionOf) (xs : List LoggedEvent) → IsSome (section_end caller s xs) → length xs ≤ most_section_events s
-record_short caller s xs h = by (section_end caller s xs) h (whole_record IsAny Leaves lengths_go_on caller s.commands (any_writes caller s.commands) [] xs)
+record_short caller s xs h = by (section_end caller s xs) h (record_length caller s xs)
   where
-    by : (o : Option SectionEnd) → IsSome o → IfSome o (λ end. Leaves (sum_by most_events s.commands) xs []) → length xs ≤ sum_by most_events s.commands
+    by : (o : Option SectionEnd) → IsSome o → IfSome o (λ end. length xs ≤ sum_by most_events s.commands) → length xs ≤ sum_by most_events s.commands
     by None i h = absurd (let n : false ≡ true = i in cc)
-    by (Some end) i h = omega (arith, h)
+    by (Some end) i h = h
 
 -- ---- each event is of one caller
 

@@ -2,7 +2,6 @@
 use Rattle.std.proofs.Common.{◌≡◌, ℕ, zero, suc, ◌+◌, ◌<◌, ◌≤◌, true, false, cond, ◌++◌, List, [], ◌∷◌, Option, length, get_or, set, filter, refl, sym, ap, subst, ◌∙◌, arith, ne_eqb, append-nil, append_assoc, zero-add, inl, inr}
 use Rattle.std.specs.Prelude.{IsSome, Any, ◌==◌}
 use Rattle.std.specs.List.{AllByRecursion}
-use Rattle.std.proofs.lemmas.Bool.Decides.{nat_tests}
 use Rattle.event_words.specs.declared.event.Event.{Event}
 use Rattle.event_words.specs.declared.shape.Shape.{Shape}
 use Rattle.event_words.specs.declared.record.LoggedEvent.{LoggedEvent}
@@ -13,6 +12,7 @@ use Rattle.event_words.specs.Runs.{caller_of_word, logged_from, logged_first}
 use Rattle.event_words.specs.Sections.{SectionOf}
 use Rattle.event_words.specs.Records.{section_end, events_by, is_by}
 use Rattle.event_words.proofs.Runs.{run-snoc, logged_from-append, events_by-append, event_of_word-word_of, events-of-beginning}
+use Rattle.event_words.proofs.OwnEvents.{own, foreign, is_own, is_below, is_above}
 use Rattle.section_cursor.specs.Cursors.{CursorOf, rest_end, HasAllTries, Allows}
 use Rattle.section_cursor.specs.ValidEvents.{HasValidEvents}
 use Rattle.unit_core.specs.Units.{FabricState, fabric_at_reset}
@@ -42,21 +42,6 @@ pub state_more : (shapes : List Shape) (words : List ℕ) (w : ℕ) → state_af
 state_more shapes words w = run-snoc state_after_word (fabric_at_reset shapes) words w
 
 -- ---- callers
-
-own : (i : ℕ) (x : LoggedEvent) (left : List LoggedEvent) → is_by i x ≡ true → events_by i (x ∷ left) ≡ x ∷ events_by i left
-own i x left h = rw h refl
-
-foreign : (i : ℕ) (x : LoggedEvent) (left : List LoggedEvent) → is_by i x ≡ false → events_by i (x ∷ left) ≡ events_by i left
-foreign i x left h = rw h refl
-
-is_own : (i : ℕ) (x : LoggedEvent) → caller_of x.event ≡ i → is_by i x ≡ true
-is_own i x h = grind (arith, nat_tests)
-
-is_below : (i : ℕ) (x : LoggedEvent) → caller_of x.event < i → is_by i x ≡ false
-is_below i x h = grind (arith, nat_tests)
-
-is_above : (i : ℕ) (x : LoggedEvent) → i < caller_of x.event → is_by i x ≡ false
-is_above i x h = grind (arith, nat_tests)
 
 by_others : (i : ℕ) (xs : List LoggedEvent) (x : LoggedEvent) → is_by i x ≡ false → events_by i (xs ++ x ∷ []) ≡ events_by i xs
 by_others i xs x h = events_by-append state_after_word reply_to_word i xs (x ∷ []) ∙ ap (λ ys. events_by i xs ++ ys) (foreign i x [] h) ∙ append-nil (events_by i xs)

@@ -34,53 +34,37 @@ same_access_is a b h =
     access_of a.rrid b.rrid a.kind b.kind a.addr b.addr a.len b.len
     (eqb-true a.rrid b.rrid one.0) (same_kind a.kind b.kind two.0) (eqb-true a.addr b.addr three.0) (eqb-true a.len b.len three.1)
 
+two_are : (a a' b b' : ℕ) → (eqb a a' && eqb b b') ≡ true → (a ≡ a') × (b ≡ b')
+two_are a a' b b' t = let p = and_parts (eqb a a') (eqb b b') t in (eqb-true a a' p.0, eqb-true b b' p.1)
+
+head_is : (u u' c c' : ℕ) (rest : Bool) → (eqb u u' && (eqb c c' && rest)) ≡ true → (u ≡ u') × (c ≡ c') × (rest ≡ true)
+head_is u u' c c' rest t =
+    let p = and_parts (eqb u u') (eqb c c' && rest) t in
+    let q = and_parts (eqb c c') rest p.1 in
+    (eqb-true u u' p.0, eqb-true c c' q.0, q.1)
+
 pub same_event_is : (e x : Event) → same_event e x ≡ true → x ≡ e
 same_event_is (events.RegWrite u c i v) (events.RegWrite u' c' i' v') h =
-    let one = and_parts (eqb u u') _ h in
-    let two = and_parts (eqb c c') _ one.1 in
-    let three = and_parts (eqb i i') _ two.1 in
-    let p : u ≡ u' = eqb-true u u' one.0 in
-    let q : c ≡ c' = eqb-true c c' two.0 in
-    let r : i ≡ i' = eqb-true i i' three.0 in
-    let s : v ≡ v' = eqb-true v v' three.1 in
-    cc
+    let p = head_is u u' c c' (eqb i i' && eqb v v') h in
+    let q = two_are i i' v v' p.2 in
+    cc (p.0, p.1, q.0, q.1)
 same_event_is (events.RegRead u c i) (events.RegRead u' c' i') h =
-    let one = and_parts (eqb u u') _ h in
-    let two = and_parts (eqb c c') _ one.1 in
-    let p : u ≡ u' = eqb-true u u' one.0 in
-    let q : c ≡ c' = eqb-true c c' two.0 in
-    let r : i ≡ i' = eqb-true i i' two.1 in
-    cc
+    let p = head_is u u' c c' (eqb i i') h in
+    cc (p.0, p.1, eqb-true i i' p.2)
 same_event_is (events.Submit u c a) (events.Submit u' c' a') h =
-    let one = and_parts (eqb u u') _ h in
-    let two = and_parts (eqb c c') _ one.1 in
-    let p : u ≡ u' = eqb-true u u' one.0 in
-    let q : c ≡ c' = eqb-true c c' two.0 in
-    let r : a ≡ a' = same_access_is a a' two.1 in
-    cc
+    let p = head_is u u' c c' (same_access a a') h in
+    cc (p.0, p.1, same_access_is a a' p.2)
 same_event_is (events.Judge u c p) (events.Judge u' c' p') h =
-    let one = and_parts (eqb u u') _ h in
-    let two = and_parts (eqb c c') _ one.1 in
-    let x : u ≡ u' = eqb-true u u' one.0 in
-    let q : c ≡ c' = eqb-true c c' two.0 in
-    let r : p ≡ p' = eqb-true p p' two.1 in
-    cc
+    let q = head_is u u' c c' (eqb p p') h in
+    cc (q.0, q.1, eqb-true p p' q.2)
 same_event_is (events.Aim c a) (events.Aim c' a') h =
-    let one = and_parts (eqb c c') _ h in
-    let p : c ≡ c' = eqb-true c c' one.0 in
-    let q : a ≡ a' = eqb-true a a' one.1 in
-    cc
+    let p = two_are c c' a a' h in
+    cc (p.0, p.1)
 same_event_is (events.Wide u c s k n) (events.Wide u' c' s' k' n') h =
-    let one = and_parts (eqb u u') _ h in
-    let two = and_parts (eqb c c') _ one.1 in
-    let three = and_parts (eqb s s') _ two.1 in
-    let four = and_parts (eqb (kind_code k) (kind_code k')) _ three.1 in
-    let p : u ≡ u' = eqb-true u u' one.0 in
-    let q : c ≡ c' = eqb-true c c' two.0 in
-    let r : s ≡ s' = eqb-true s s' three.0 in
-    let t : k ≡ k' = same_kind k k' four.0 in
-    let l : n ≡ n' = eqb-true n n' four.1 in
-    cc
+    let p = head_is u u' c c' (eqb s s' && (eqb (kind_code k) (kind_code k') && eqb n n')) h in
+    let q = and_parts (eqb s s') (eqb (kind_code k) (kind_code k') && eqb n n') p.2 in
+    let r = and_parts (eqb (kind_code k) (kind_code k')) (eqb n n') q.1 in
+    cc (p.0, p.1, eqb-true s s' q.0, same_kind k k' r.0, eqb-true n n' r.1)
 same_event_is _ _ h = absurd (let n : false ≡ true = h in cc)
 
 -- ---- an event is the same as itself

@@ -37,3 +37,4 @@ pub mod TableRewrites
 pub mod LiveUpdate
 pub mod LiveExample
 pub mod LastWrite
+pub mod InNumbers

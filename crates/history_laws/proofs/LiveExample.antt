@@ -1,8 +1,6 @@
 -- A live history in numbers, of a unit with high registers: a verdict before the drained reading, which the old
 -- policy denies, and one after the release, which the new policy allows.
-use Rattle.std.proofs.Common.{◌≡◌, ℕ, List, [], ◌∷◌, ◌++◌, Some, None, map, refl, arith, true, false, subst, sym, ◌∙◌, ◌+◌, ◌-◌, ◌^◌, ◌<◌, ◌≤◌, ⊎_elim}
-use Rattle.std.proofs.lemmas.Bool.{cases_lt}
-use Rattle.std.specs.List.{AllByRecursion}
+use Rattle.std.proofs.Common.{◌≡◌, ℕ, List, [], ◌∷◌, ◌++◌, Some, None, map, refl, arith, true, false, ◌<◌}
 use lib.Count
 use Rattle.event_words.specs.declared.shape.Shape.{Shape}
 use Rattle.event_words.specs.declared.access.Access.{Access}
@@ -14,9 +12,7 @@ use Rattle.event_words.specs.declared.reply.Verdict.TheVariants.{Allowed, Denied
 use Rattle.event_words.specs.declared.section.Command.TheVariants as commands
 use Rattle.event_words.specs.Sections.{SectionOf}
 use Rattle.event_words.specs.Word.{word_of}
-use Rattle.event_words.specs.Valid.{IsValidEvent, IsValidHead, IsValidShape}
-use Rattle.event_words.specs.Events.{same_event}
-use Rattle.event_words.specs.Runs.{IsEventWord, caller_of_word}
+use Rattle.event_words.specs.Runs.{caller_of_word}
 use Rattle.policy_compiler.specs.Policies.{PolicyOf, IsPolicy, IsRule, is_single}
 use Rattle.policy_compiler.specs.Needs.{need_refusal, need_domains, need_entries, rule_need}
 use Rattle.policy_compiler.specs.Commands.{image_section}
@@ -24,11 +20,10 @@ use Rattle.update_planner.specs.Plans.{plan_commands, rewrites}
 use Rattle.policy_compiler.specs.Images.{image_of, pair, writes_of, member_writes, rule_entries}
 use Rattle.policy_compiler.specs.Decides.{policy_decision, rule_touches, rule_covers, rule_grants, is_member, guard_kind, grants_kind}
 use Rattle.unit_core.specs.Histories.{History, reply_at, history_of, logged_in, HasRecord, HaveRecords, BootComesFirst}
-use Rattle.unit_core.specs.Updates.{ReadsDrained, IsDrainedReading, IsUpdateWrite, IsRelease}
+use Rattle.unit_core.specs.Updates.{ReadsDrained, IsDrainedReading, IsRelease}
 use Rattle.history_laws.specs.Live.{IsLiveHistory, update_lanes}
-use Rattle.event_words.proofs.Runs.{word_of-is_word}
-use Rattle.history_laws.proofs.QuietRecords.{IsNoWriteEvent}
-use Rattle.history_laws.proofs.Writes.{all_get, get_low, get_append}
+use Rattle.event_words.proofs.ValidTests.{event_words, valid_shape}
+use Rattle.history_laws.proofs.InNumbers.{boot_first, first_reading, last_write}
 
 abbrev wide : Shape
 wide = record { rrids = 1; domains = 40; entries = 1; mdcfg = 0; k = 0; srcmd = 0; sps = false; queue = 1; transl = None }
@@ -123,127 +118,16 @@ after_release = refl
 -- ---- the drained reading and the release
 
 reading : IsDrainedReading history 11
-reading = record { drained = drained; first = λ k d. ⊎_elim (λ (l : k < 11). absurd (none_before k l d)) (λ (l : 11 ≤ k). l) (cases_lt k 11) }
-  where
-    none_before : (k : ℕ) → k < 11 → ReadsDrained history k → ⊥
-    none_before k l d =
-        let e = sym (get_low up_to_reading from_reading k l) ∙ d.event in
-        let other = all_get (λ e. same_event (RegRead 0 1 12) e ≡ false) up_to_reading k (RegRead 0 1 12) (refl, (refl, (refl, (refl, (refl, (refl, (refl, (refl, (refl, (refl, (refl, tt))))))))))) e in
-        let n : true ≡ false = other in
-        cc
+reading = first_reading wide up_to_reading from_reading (refl, (refl, (refl, (refl, (refl, (refl, (refl, (refl, (refl, (refl, (refl, tt))))))))))) drained
 
 release : IsRelease history 20
-release = record {
-  place = 11;
-  reading = reading;
-  write = record { unit = 0; index = 12; value = 0; event = refl };
-  last = λ k w. ⊎_elim (λ (l : k < 21). omega arith) (λ (l : 21 ≤ k). absurd (none_after (k - 21) (subst (λ j. IsUpdateWrite history j) (past k l) w))) (cases_lt k 21);
-}
-  where
-    past : (k : ℕ) → 21 ≤ k → k ≡ 21 + (k - 21)
-    past k l = omega arith
-
-    none_after : (m : ℕ) → IsUpdateWrite history (21 + m) → ⊥
-    none_after m w =
-        let e = sym (get_append up_to_release after_it m) ∙ w.event in
-        all_get IsNoWriteEvent after_it m (RegWrite w.unit 1 w.index w.value) (tt, tt) e
+release = last_write wide up_to_release after_it 11 20 refl (tt, tt) reading (record { unit = 0; index = 12; value = 0; event = refl })
 
 -- ---- it is a live history
 
-head : (unit caller : ℕ) → unit < 4 → caller < 32 → IsValidHead unit caller
-head unit caller p q = record { unit_below = p; caller_below = q }
-
-valid_write : (caller index value : ℕ) → caller < 32 → index < 2 ^ 22 → value < 2 ^ 32 → IsValidEvent (RegWrite 0 caller index value)
-valid_write caller index value p q r = (head 0 caller (omega arith) p, q, r)
-
-valid_submission : (caller : ℕ) → caller < 32 → IsValidEvent (Submit 0 caller written)
-valid_submission caller p = (head 0 caller (omega arith) p, record { rrid = omega arith; shortest = omega arith; longest = omega arith; below_end = omega arith }, refl)
-
-valid_judgement : (caller place : ℕ) → caller < 32 → place < 2 ^ 24 → IsValidEvent (Judge 0 caller place)
-valid_judgement caller place p q = (head 0 caller (omega arith) p, q)
-
-event_words : (es : List Event) → AllByRecursion IsValidEvent es → AllByRecursion IsEventWord (map word_of es)
-event_words [] h = tt
-event_words (e ∷ es) h = (word_of-is_word e h.0, event_words es h.1)
-
-all_valid : AllByRecursion IsValidEvent updated
-all_valid = (
-  valid_write 0 4 0 (omega arith) (omega arith) (omega arith),
-  (
-    valid_write 0 512 1 (omega arith) (omega arith) (omega arith),
-    (
-      valid_write 0 1024 2 (omega arith) (omega arith) (omega arith),
-      (
-        valid_write 0 1025 0 (omega arith) (omega arith) (omega arith),
-        (
-          valid_write 0 2048 0x200001ff (omega arith) (omega arith) (omega arith),
-          (
-            valid_write 0 2049 0 (omega arith) (omega arith) (omega arith),
-            (
-              valid_write 0 2050 0x19 (omega arith) (omega arith) (omega arith),
-              (
-                valid_write 0 2 1 (omega arith) (omega arith) (omega arith),
-                (
-                  valid_submission 2 (omega arith),
-                  (
-                    valid_write 1 12 1 (omega arith) (omega arith) (omega arith),
-                    (
-                      valid_judgement 2 8 (omega arith) (omega arith),
-                      (
-                        (head 0 1 (omega arith) (omega arith), omega arith),
-                        (
-                          valid_write 1 4 0 (omega arith) (omega arith) (omega arith),
-                          (
-                            valid_write 1 512 1 (omega arith) (omega arith) (omega arith),
-                            (
-                              valid_write 1 1024 2 (omega arith) (omega arith) (omega arith),
-                              (
-                                valid_write 1 1025 0 (omega arith) (omega arith) (omega arith),
-                                (
-                                  valid_write 1 2048 0x200001ff (omega arith) (omega arith) (omega arith),
-                                  (
-                                    valid_write 1 2049 0 (omega arith) (omega arith) (omega arith),
-                                    (
-                                      valid_write 1 2050 0x1b (omega arith) (omega arith) (omega arith),
-                                      (
-                                        valid_submission 3 (omega arith),
-                                        (
-                                          valid_write 1 12 0 (omega arith) (omega arith) (omega arith),
-                                          (
-                                            valid_judgement 3 19 (omega arith) (omega arith),
-                                            tt,
-                                          ),
-                                        ),
-                                      ),
-                                    ),
-                                  ),
-                                ),
-                              ),
-                            ),
-                          ),
-                        ),
-                      ),
-                    ),
-                  ),
-                ),
-              ),
-            ),
-          ),
-        ),
-      ),
-    ),
-  ),
-)
-
 order : BootComesFirst 3 words
 unfolding caller_of_word
-order = record {
-  boot = map word_of boot_events;
-  others = map word_of lane_events;
-  is = refl;
-  of_boot = (refl, (refl, (refl, (refl, (refl, (refl, (refl, (refl, tt))))))));
-  of_lanes = ((omega arith, omega arith), ((omega arith, omega arith), ((omega arith, omega arith), ((omega arith, omega arith), ((omega arith, omega arith), ((omega arith, omega arith), ((omega arith, omega arith), ((omega arith, omega arith), ((omega arith, omega arith), ((omega arith, omega arith), ((omega arith, omega arith), ((omega arith, omega arith), ((omega arith, omega arith), ((omega arith, omega arith), tt))))))))))))));
-}
+order = boot_first 3 (map word_of boot_events) (map word_of lane_events) refl refl
 
 boot_record : HasRecord (logged_in (wide ∷ []) words) 0 (image_section (image_of old))
 unfolding image_of writes_of member_writes rule_entries is_single lib.Count.ones lib.Count.count_trailing_zeros
@@ -253,29 +137,13 @@ lane_records : HaveRecords (logged_in (wide ∷ []) words) 1 (update_lanes old n
 unfolding image_of writes_of member_writes rule_entries is_single lib.Count.ones lib.Count.count_trailing_zeros plan_commands rewrites
 lane_records = (refl, (refl, (refl, tt)))
 
-valid_shape : IsValidShape wide
-valid_shape = record {
-  rrids = (omega arith, omega arith);
-  domains = (omega arith, omega arith);
-  entries = (omega arith, omega arith);
-  mdcfg = omega arith;
-  k_fixed = λ e. refl;
-  k_chosen = λ ne. absurd (ne refl);
-  k = omega arith;
-  srcmd = omega arith;
-  srcmd_rrids = λ e. omega arith;
-  sps = λ e. refl;
-  queue = (omega arith, omega arith);
-  transl = tt;
-}
-
 rule : (rights : ℕ) → rights < 8 → IsRule (record { from = 0x80000000; size = 0x1000; rights = record { 0 = rights } })
 unfolding is_single lib.Count.ones
 rule rights p = record { from = omega arith; size = omega arith; some = omega arith; end = omega arith; top = refl; rights = p }
 
 policy : (rights : ℕ) → rights < 8 → IsPolicy (with_rights rights)
 policy rights p = record {
-  shape = record { valid = valid_shape; mdcfg = refl; srcmd = refl; sps = refl };
+  shape = record { valid = valid_shape wide refl; mdcfg = refl; srcmd = refl; sps = refl };
   few = omega arith;
   domains = (record { rrids = omega arith; few_guards = omega arith; few_grants = omega arith; guards = tt; grants = (rule rights p, tt) }, tt);
 }
@@ -292,5 +160,5 @@ live = record {
   old_fits = fits 1;
   new_fits = fits 3;
   quiet = ((tt, (tt, tt)), ((tt, (tt, tt)), tt));
-  legal = record { events = event_words updated all_valid; order = order; boot_record = boot_record; lane_records = lane_records };
+  legal = record { events = event_words updated refl; order = order; boot_record = boot_record; lane_records = lane_records };
 }

@@ -1,8 +1,6 @@
 -- A narrow history in numbers. While requester 0 is stalled, requester 1 submits and has a verdict; requester 0's
 -- submission is queued, and after the release its verdict is the new policy's.
-use Rattle.std.proofs.Common.{◌≡◌, ℕ, List, [], ◌∷◌, ◌++◌, Some, None, map, refl, arith, true, false, subst, sym, ◌∙◌, ◌+◌, ◌-◌, ◌^◌, ◌<◌, ◌≤◌, ⊎_elim}
-use Rattle.std.proofs.lemmas.Bool.{cases_lt}
-use Rattle.std.specs.List.{AllByRecursion}
+use Rattle.std.proofs.Common.{◌≡◌, ℕ, List, [], ◌∷◌, ◌++◌, Some, None, map, refl, arith, ◌<◌}
 use lib.Count
 use Rattle.event_words.specs.declared.access.Access.{Access}
 use Rattle.event_words.specs.declared.access.Kind.TheVariants.{Write}
@@ -13,10 +11,8 @@ use Rattle.event_words.specs.declared.reply.Verdict.TheVariants.{Allowed}
 use Rattle.event_words.specs.declared.section.Command.TheVariants as commands
 use Rattle.event_words.specs.Sections.{SectionOf}
 use Rattle.event_words.specs.Word.{word_of}
-use Rattle.event_words.specs.Valid.{IsValidAccess, IsValidEvent, IsValidHead, IsValidShape}
-use Rattle.event_words.specs.Events.{same_event}
-use Rattle.event_words.specs.Runs.{IsEventWord, caller_of_word}
-use Rattle.event_words.proofs.Runs.{word_of-is_word}
+use Rattle.event_words.specs.Runs.{caller_of_word}
+use Rattle.event_words.proofs.ValidTests.{event_words, valid_shape}
 use Rattle.policy_compiler.specs.Policies.{IsPolicy, IsRule, is_single}
 use Rattle.policy_compiler.specs.Needs.{need_refusal, need_domains, need_entries, rule_need}
 use Rattle.policy_compiler.specs.Commands.{image_section}
@@ -24,9 +20,8 @@ use Rattle.policy_compiler.specs.Images.{image_of, writes_of, member_writes, rul
 use Rattle.policy_compiler.specs.Laws.{registers_after}
 use Rattle.update_planner.specs.Plans.{rewrites}
 use Rattle.unit_core.specs.Histories.{History, reply_at, history_of, logged_in, HasRecord, HaveRecords, BootComesFirst}
-use Rattle.unit_core.specs.Updates.{ReadsDrained, IsDrainedReading, IsUpdateWrite, IsRelease}
-use Rattle.history_laws.proofs.QuietRecords.{IsNoWriteEvent}
-use Rattle.history_laws.proofs.Writes.{all_get, get_low, get_append}
+use Rattle.unit_core.specs.Updates.{ReadsDrained, IsDrainedReading, IsRelease}
+use Rattle.history_laws.proofs.InNumbers.{boot_first, first_reading, last_write}
 use Rattle.narrow_plans.specs.Views.{view_of}
 use Rattle.narrow_plans.specs.BetweenStates.{table_writes, between_states}
 use Rattle.narrow_plans.specs.Unaffected.{is_unaffected, affected}
@@ -108,154 +103,16 @@ drained = record { value = 0; event = refl; reply = refl; idle = refl }
 -- ---- the drained reading and the release
 
 reading : IsDrainedReading history 14
-reading = record { drained = drained; first = λ k d. ⊎_elim (λ (l : k < 14). absurd (none_before k l d)) (λ (l : 14 ≤ k). l) (cases_lt k 14) }
-  where
-    none_before : (k : ℕ) → k < 14 → ReadsDrained history k → ⊥
-    none_before k l d =
-        let e = sym (get_low up_to_reading from_reading k l) ∙ d.event in
-        let other = all_get (λ e. same_event (RegRead 0 1 12) e ≡ false) up_to_reading k (RegRead 0 1 12) (refl, (refl, (refl, (refl, (refl, (refl, (refl, (refl, (refl, (refl, (refl, (refl, (refl, (refl, tt)))))))))))))) e in
-        let n : true ≡ false = other in
-        cc
+reading = first_reading small up_to_reading from_reading (refl, (refl, (refl, (refl, (refl, (refl, (refl, (refl, (refl, (refl, (refl, (refl, (refl, (refl, tt)))))))))))))) drained
 
 release : IsRelease history 28
-release = record {
-  place = 14;
-  reading = reading;
-  write = record { unit = 0; index = 12; value = 0; event = refl };
-  last = λ k w. ⊎_elim (λ (l : k < 29). omega arith) (λ (l : 29 ≤ k). absurd (none_after (k - 29) (subst (λ j. IsUpdateWrite history j) (past k l) w))) (cases_lt k 29);
-}
-  where
-    past : (k : ℕ) → 29 ≤ k → k ≡ 29 + (k - 29)
-    past k l = omega arith
-
-    none_after : (m : ℕ) → IsUpdateWrite history (29 + m) → ⊥
-    none_after m w =
-        let e = sym (get_append up_to_release after_it m) ∙ w.event in
-        all_get IsNoWriteEvent after_it m (RegWrite w.unit 1 w.index w.value) (tt, tt) e
+release = last_write small up_to_release after_it 14 28 refl (tt, tt) reading (record { unit = 0; index = 12; value = 0; event = refl })
 
 -- ---- it is a narrow history
 
-head : (unit caller : ℕ) → unit < 4 → caller < 32 → IsValidHead unit caller
-head unit caller p q = record { unit_below = p; caller_below = q }
-
-valid_write : (caller index value : ℕ) → caller < 32 → index < 2 ^ 22 → value < 2 ^ 32 → IsValidEvent (RegWrite 0 caller index value)
-valid_write caller index value p q r = (head 0 caller (omega arith) p, q, r)
-
-valid_own : IsValidAccess own
-valid_own = record { rrid = omega arith; shortest = omega arith; longest = omega arith; below_end = omega arith }
-
-valid_changed : IsValidAccess changed
-valid_changed = record { rrid = omega arith; shortest = omega arith; longest = omega arith; below_end = omega arith }
-
-valid_judgement : (caller place : ℕ) → caller < 32 → place < 2 ^ 24 → IsValidEvent (Judge 0 caller place)
-valid_judgement caller place p q = (head 0 caller (omega arith) p, q)
-
-event_words : (es : List Event) → AllByRecursion IsValidEvent es → AllByRecursion IsEventWord (map word_of es)
-event_words [] h = tt
-event_words (e ∷ es) h = (word_of-is_word e h.0, event_words es h.1)
-
-all_valid : AllByRecursion IsValidEvent updated
-all_valid = (
-  valid_write 0 4 0 (omega arith) (omega arith) (omega arith),
-  (
-    valid_write 0 512 1 (omega arith) (omega arith) (omega arith),
-    (
-      valid_write 0 513 2 (omega arith) (omega arith) (omega arith),
-      (
-        valid_write 0 1024 2 (omega arith) (omega arith) (omega arith),
-        (
-          valid_write 0 1032 4 (omega arith) (omega arith) (omega arith),
-          (
-            valid_write 0 2048 0x200001ff (omega arith) (omega arith) (omega arith),
-            (
-              valid_write 0 2049 0 (omega arith) (omega arith) (omega arith),
-              (
-                valid_write 0 2050 0x19 (omega arith) (omega arith) (omega arith),
-                (
-                  valid_write 0 2052 0x240001ff (omega arith) (omega arith) (omega arith),
-                  (
-                    valid_write 0 2053 0 (omega arith) (omega arith) (omega arith),
-                    (
-                      valid_write 0 2054 0x1b (omega arith) (omega arith) (omega arith),
-                      (
-                        valid_write 0 2 1 (omega arith) (omega arith) (omega arith),
-                        (
-                          valid_write 1 14 0x40000000 (omega arith) (omega arith) (omega arith),
-                          (
-                            (head 0 2 (omega arith) (omega arith), valid_own, refl),
-                            (
-                              (head 0 1 (omega arith) (omega arith), omega arith),
-                              (
-                                (head 0 3 (omega arith) (omega arith), valid_changed, refl),
-                                (
-                                  valid_judgement 2 13 (omega arith) (omega arith),
-                                  (
-                                    valid_write 1 4 0 (omega arith) (omega arith) (omega arith),
-                                    (
-                                      valid_write 1 512 1 (omega arith) (omega arith) (omega arith),
-                                      (
-                                        valid_write 1 513 2 (omega arith) (omega arith) (omega arith),
-                                        (
-                                          valid_write 1 1024 2 (omega arith) (omega arith) (omega arith),
-                                          (
-                                            valid_write 1 1032 4 (omega arith) (omega arith) (omega arith),
-                                            (
-                                              valid_write 1 2048 0x200001ff (omega arith) (omega arith) (omega arith),
-                                              (
-                                                valid_write 1 2049 0 (omega arith) (omega arith) (omega arith),
-                                                (
-                                                  valid_write 1 2050 0x1b (omega arith) (omega arith) (omega arith),
-                                                  (
-                                                    valid_write 1 2052 0x240001ff (omega arith) (omega arith) (omega arith),
-                                                    (
-                                                      valid_write 1 2053 0 (omega arith) (omega arith) (omega arith),
-                                                      (
-                                                        valid_write 1 2054 0x1b (omega arith) (omega arith) (omega arith),
-                                                        (
-                                                          valid_write 1 12 0 (omega arith) (omega arith) (omega arith),
-                                                          (
-                                                            valid_judgement 3 15 (omega arith) (omega arith),
-                                                            tt,
-                                                          ),
-                                                        ),
-                                                      ),
-                                                    ),
-                                                  ),
-                                                ),
-                                              ),
-                                            ),
-                                          ),
-                                        ),
-                                      ),
-                                    ),
-                                  ),
-                                ),
-                              ),
-                            ),
-                          ),
-                        ),
-                      ),
-                    ),
-                  ),
-                ),
-              ),
-            ),
-          ),
-        ),
-      ),
-    ),
-  ),
-)
-
 order : BootComesFirst 3 words
 unfolding caller_of_word
-order = record {
-  boot = map word_of boot_events;
-  others = map word_of lane_events;
-  is = refl;
-  of_boot = (refl, (refl, (refl, (refl, (refl, (refl, (refl, (refl, (refl, (refl, (refl, (refl, tt))))))))))));
-  of_lanes = ((omega arith, omega arith), ((omega arith, omega arith), ((omega arith, omega arith), ((omega arith, omega arith), ((omega arith, omega arith), ((omega arith, omega arith), ((omega arith, omega arith), ((omega arith, omega arith), ((omega arith, omega arith), ((omega arith, omega arith), ((omega arith, omega arith), ((omega arith, omega arith), ((omega arith, omega arith), ((omega arith, omega arith), ((omega arith, omega arith), ((omega arith, omega arith), ((omega arith, omega arith), ((omega arith, omega arith), tt))))))))))))))))));
-}
+order = boot_first 3 (map word_of boot_events) (map word_of lane_events) refl refl
 
 boot_record : HasRecord (logged_in (small ∷ []) words) 0 (image_section (image_of old))
 unfolding image_of writes_of member_writes rule_entries is_single lib.Count.ones lib.Count.count_trailing_zeros
@@ -264,22 +121,6 @@ boot_record = refl
 lane_records : HaveRecords (logged_in (small ∷ []) words) 1 (narrow_lanes old new 8 (judged own ∷ judged changed ∷ []))
 unfolding narrow_commands rewrites affected is_unaffected between_states table_writes view_of registers_after image_of writes_of member_writes rule_entries is_single lib.Count.ones lib.Count.count_trailing_zeros
 lane_records = (refl, (refl, (refl, tt)))
-
-valid_shape : IsValidShape small
-valid_shape = record {
-  rrids = (omega arith, omega arith);
-  domains = (omega arith, omega arith);
-  entries = (omega arith, omega arith);
-  mdcfg = omega arith;
-  k_fixed = λ e. refl;
-  k_chosen = λ ne. absurd (ne refl);
-  k = omega arith;
-  srcmd = omega arith;
-  srcmd_rrids = λ e. omega arith;
-  sps = λ e. refl;
-  queue = (omega arith, omega arith);
-  transl = tt;
-}
 
 rule_at_8 : (rights : ℕ) → rights < 8 → IsRule (record { from = 0x80000000; size = 0x1000; rights = record { 0 = rights } })
 unfolding is_single lib.Count.ones
@@ -291,7 +132,7 @@ rule_at_9 rights p = record { from = omega arith; size = omega arith; some = ome
 
 policy : (rights : ℕ) → rights < 8 → IsPolicy (with_rights rights)
 policy rights p = record {
-  shape = record { valid = valid_shape; mdcfg = refl; srcmd = refl; sps = refl };
+  shape = record { valid = valid_shape small refl; mdcfg = refl; srcmd = refl; sps = refl };
   few = omega arith;
   domains = (
     record { rrids = omega arith; few_guards = omega arith; few_grants = omega arith; guards = tt; grants = (rule_at_8 rights p, tt) },
@@ -311,5 +152,5 @@ narrow = record {
   old_fits = fits 1;
   new_fits = fits 3;
   no_writes = ((tt, (tt, tt)), ((tt, (tt, tt)), tt));
-  legal = record { events = event_words updated all_valid; order = order; boot_record = boot_record; lane_records = lane_records };
+  legal = record { events = event_words updated refl; order = order; boot_record = boot_record; lane_records = lane_records };
 }

@@ -1,6 +1,6 @@
 -- What writes and captures leave in the registers.
-use Rattle.std.proofs.Common.{◌≡◌, ◌⊎◌, ℕ, ◌+◌, ◌*◌, ◌^◌, ◌/◌, ◌%◌, ◌<◌, ◌≤◌, not, ◌&&◌, Bool, true, false, List, Option, Some, None, length, get_or, set, bit_and, min, max, arith, refl, sym, ◌∙◌, subst, ⊎_elim}
-use Rattle.std.specs.Prelude.{is_some, unwrap_or, IfSome}
+use Rattle.std.proofs.Common.{◌≡◌, ◌⊎◌, ℕ, ◌+◌, ◌*◌, ◌^◌, ◌/◌, ◌%◌, ◌<◌, ◌≤◌, not, ◌&&◌, List, Option, Some, None, length, get_or, set, bit_and, min, max, arith, refl, sym, ◌∙◌, subst, ⊎_elim}
+use Rattle.std.specs.Prelude.{is_some}
 use Rattle.std.specs.Int.{bit_at, bit_not, w32}
 use Rattle.std.proofs.lemmas.Nat.{and_le_l, and_le_r, or_lt}
 use Rattle.std.proofs.lemmas.Nat.Bits.{bit_at_and, bit_at_or}
@@ -10,13 +10,14 @@ use Rattle.std.proofs.lemmas.Bool.{cond_both, cases_eq, cases_lt}
 use Rattle.event_words.specs.declared.shape.Shape.{Shape}
 use Rattle.event_words.specs.declared.access.Access.{Access}
 use Rattle.event_words.specs.declared.reply.Denial.{Denial}
-use Rattle.event_words.specs.Registers.{Registers, word_at, merged, written, write_at, register_at, at_reset, reset_of, reset_word, index_count, has_bit, count_of_bool}
+use Rattle.event_words.specs.Registers.{Registers, word_at, merged, written, write_at, register_at, at_reset, reset_of, reset_word, index_count, has_bit}
 use Rattle.event_words.specs.declared.register.Register.{Register}
 use Rattle.event_words.specs.declared.register.Register.TheVariants.{Hwcfg0, Hwcfg1, Hwcfg2, ErrInfo}
 use Rattle.event_words.specs.Word.{kind_code}
 use Rattle.event_words.specs.Guards.{reg}
 use Rattle.event_words.specs.Denials.{recorded, with_error}
 use Rattle.event_words.specs.Valid.{IsValidShape}
+use Rattle.event_words.proofs.WellFormedLemmas.{bool_small, transl_small}
 use Rattle.unit_core.proofs.KeptBits.{other_stays}
 
 pub recorded_cases : (P : Registers → Type 0) (r : Registers) (a : Access) (d : Denial) → ((info addr addrh id : ℕ) → P (with_error r info addr addrh id)) → P r → P (recorded r a d)
@@ -100,14 +101,6 @@ words_written r index value keep w j out = ⊎_elim
 
 pub words_recorded : (r : Registers) (a : Access) (d : Denial) → AreWords r → AreWords (recorded r a d)
 words_recorded r a d w j out = subst (λ n. n < 2 ^ 32) (sym (recorded_outside r a d j out)) (w j out)
-
-bool_small : (b : Bool) → count_of_bool b < 2
-bool_small true = omega arith
-bool_small false = omega arith
-
-transl_small : (o : Option ℕ) → IfSome o (λ rrid. rrid ≤ 63) → unwrap_or o 0 < 2 ^ 16
-transl_small None h = omega arith
-transl_small (Some rrid) h = omega arith
 
 reset_below : (h : Shape) (o : Option Register) → IsValidShape h → reset_of h o < 2 ^ 32
 reset_below h None v = omega arith
