@@ -5,9 +5,10 @@ ghost use Rattle.event_words.specs.Valid.{IsValidAccess};
 ghost use Rattle.event_words.specs.Decisions.{covering, is_entry_of, is_covering};
 ghost use Rattle.match_rules.specs.Summaries.{IsSummary};
 
-use crate::entries::{entry_grants, has_cfg_bit, is_covering};
+use crate::entries::{is_covering, is_granting};
 use event_words::Access;
 use register_fields::Regs;
+use srcmd_formats::has_cfg_bit;
 
 /// What the decision needs of some entries: the first of them, whether one grants the kind, and
 /// whether each mutes the interrupt and the bus error.
@@ -27,7 +28,7 @@ fn with_entry(regs: &Regs, access: &Access, summary: Summary, entry: u16) -> Sum
         → IsSummary regs.now access.now (before ++ entry ∷ []) result }
 {
     let kind = access.kind.code();
-    let grants = entry_grants(regs, access, entry);
+    let grants = is_granting(regs, access, entry);
     let mutes_irq = has_cfg_bit(regs, 5 + kind, entry);
     let mutes_err = has_cfg_bit(regs, 8 + kind, entry);
     Summary {

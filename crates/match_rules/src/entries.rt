@@ -2,13 +2,13 @@
 ghost use Rattle.std.specs.Prelude.{◌≡◌, ◌<◌, IsTrue, nat_lt};
 ghost use Rattle.event_words.specs.Valid.{IsValidAccess};
 ghost use Rattle.event_words.specs.Entries.{touches, covers};
-ghost use Rattle.event_words.specs.Decisions.{is_entry_of, entry_grants, prio_count, has_cfg_bit, is_touching, is_covering};
+ghost use Rattle.event_words.specs.Decisions.{is_entry_of, entry_grants, prio_count, is_touching, is_covering};
 
 use entry_ranges::range_of;
 use event_words::{Access, Register};
 use mdcfg_formats::domain_of;
-use register_fields::{Regs, has_bit};
-use srcmd_formats::{domains_of, grants, has_domain};
+use register_fields::Regs;
+use srcmd_formats::{domains_of, entry_grants, has_domain};
 
 /// Whether the entry is a priority entry, one below HWCFG2.prio_entry.
 fn is_priority(regs: &Regs, entry: u16) -> bool
@@ -79,26 +79,14 @@ pub fn is_covering(regs: &Regs, access: &Access, entry: u16) -> bool
     covers(regs, entry, access)
 }
 
-/// One bit of the entry's ENTRY_CFG.
-pub fn has_cfg_bit(regs: &Regs, bit: u8, entry: u16) -> bool
-    requires bit { bit < 32 }
-    requires entry { entry < regs.now.shape.entries }
-    ensures { result ≡ has_cfg_bit regs.now bit entry }
-{
-    has_bit(regs.word(Register::EntryCfg(entry as u32)), bit as u32)
-}
-
 /// Whether an entry of the requester grants it the kind.
-pub fn entry_grants(regs: &Regs, access: &Access, entry: u16) -> bool
+pub fn is_granting(regs: &Regs, access: &Access, entry: u16) -> bool
     requires entry { entry < regs.now.shape.entries }
     requires own { IsTrue (is_entry_of regs.now access.now.rrid entry) }
     ensures { result ≡ entry_grants regs.now access.now.rrid access.now.kind entry }
 {
     match domain_of(regs, entry) {
         None => false,
-        Some(domain) => {
-            has_cfg_bit(regs, access.kind.code(), entry)
-                && grants(regs, access.rrid, domain, access.kind)
-        }
+        Some(domain) => entry_grants(regs, access, domain, entry),
     }
 }

@@ -5,7 +5,7 @@
 ghost use Rattle.std.specs.Prelude.{◌≡◌, ℕ, ◌+◌, ◌<◌, IsTrue, IfSome, Some, List};
 ghost use Rattle.event_words.specs.Valid.{IsValidAccess};
 ghost use Rattle.event_words.specs.Registers.{Registers};
-ghost use Rattle.event_words.specs.Decisions.{is_entry_of, decision, violation, decide_by_hit, by_covering};
+ghost use Rattle.event_words.specs.Decisions.{is_entry_of, decision, decide_by_hit, by_covering};
 ghost use Rattle.match_rules.specs.Summaries.{IsSummary};
 
 mod covering;
@@ -13,21 +13,11 @@ mod entries;
 mod priority;
 
 use covering::{Summary, covering};
-use entries::{covers, entry_grants, has_cfg_bit};
+use entries::{covers, is_granting};
 use event_words::{Access, Decision, Register};
 use priority::first_touching;
 use register_fields::{Regs, has_bit};
-
-fn violation(kind: u8, entry: u16) -> Decision
-    ensures { result ≡ violation kind entry }
-{
-    Decision::Denied {
-        kind,
-        entry,
-        mute_irq: false,
-        mute_err: false,
-    }
-}
+use srcmd_formats::{refusal, violation};
 
 fn by_covering(access: &Access, summary: Summary) -> Decision
     ensures { (r : Registers) (js : List ℕ) → IsSummary r access.now js summary → result ≡ by_covering r access.now js }
@@ -50,18 +40,12 @@ fn decide_by_hit(regs: &Regs, access: &Access, entry: u16) -> Decision
     requires own { IsTrue (is_entry_of regs.now access.now.rrid entry) }
     ensures { result ≡ decide_by_hit regs.now access.now (Some entry) }
 {
-    let kind = access.kind.code();
     if !covers(regs, entry, access) {
         violation(4, entry)
-    } else if entry_grants(regs, access, entry) {
+    } else if is_granting(regs, access, entry) {
         Decision::Allowed
     } else {
-        Decision::Denied {
-            kind: 1 + kind,
-            entry,
-            mute_irq: has_cfg_bit(regs, 5 + kind, entry),
-            mute_err: has_cfg_bit(regs, 8 + kind, entry),
-        }
+        refusal(regs, access, entry)
     }
 }
 

@@ -6,6 +6,9 @@ ghost use Rattle.std.specs.Prelude.{◌≡◌, ℕ, Bool, ◌+◌, ◌-◌, ◌*
 ghost use Rattle.event_words.specs.Registers.{has_bit};
 ghost use Rattle.event_words.specs.Domains.{is_in_table, is_associated, is_enabled_in, is_readable_in, is_writable_in, has_first_permission, has_second_permission, by_kind, domain_grants};
 
+mod entries;
+
+pub use entries::{entry_grants, has_cfg_bit, refusal, violation};
 use event_words::{Kind, Register, Shape};
 use register_fields::Regs;
 

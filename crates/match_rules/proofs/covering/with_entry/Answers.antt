@@ -14,4 +14,4 @@ returns c = λ before h.
     let grants = any_more (entry_grants r a.rrid a.kind) before e in
     let irq = all_more (has_cfg_bit r (5 + kind_code a.kind)) before e in
     let err = all_more (has_cfg_bit r (8 + kind_code a.kind)) before e in
-    record { first = cc (h.first, first, c.or.ensures); grants = cc (h.grants, grants, c.entry_grants-grants.ensures); mute_irq = cc (h.mute_irq, irq, c.has_cfg_bit-mutes_irq.ensures, c.code-kind.ensures.value); mute_err = cc (h.mute_err, err, c.has_cfg_bit-mutes_err.ensures, c.code-kind.ensures.value) }
+    record { first = cc (h.first, first, c.or.ensures); grants = cc (h.grants, grants, c.is_granting-grants.ensures); mute_irq = cc (h.mute_irq, irq, c.has_cfg_bit-mutes_irq.ensures, c.code-kind.ensures.value); mute_err = cc (h.mute_err, err, c.has_cfg_bit-mutes_err.ensures, c.code-kind.ensures.value) }
