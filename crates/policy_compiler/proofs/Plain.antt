@@ -97,18 +97,24 @@ has_permission h m f p = let k : ltb m h.domains ≡ true = search (nat_tests, a
 
 -- ---- the writes of each table
 
+-- a register of a table, but none of SRCMD_EN, each of whose words below a limit is written as it is
+plain_below : (h : Shape) (i v limit : ℕ) → ((w : ℕ) → w < limit → (r : Registers) → IsUnlocked h r → guarded_write r (pair i w) ≡ set_word r i w) → v < limit → 512 ≤ i → i < index_count h
+    → (h.srcmd ≡ 0 → (s : ℕ) → s < 64 → i ≡ 1024 + 8 * s → ⊥) → IsPlain h (pair i v)
+plain_below h i v limit alone small table inside other_index = record {
+  alone = alone v small;
+  cleared = alone 0 (omega (arith, small));
+  table = table;
+  inside = inside;
+  even = λ f s l e. absurd (other_index f s l e);
+}
+
 mdcfg_alone : (h : Shape) (m v : ℕ) → IsPolicyShape h → m < h.domains → v < 2 ^ 16 → (r : Registers) → IsUnlocked h r → guarded_write r (pair (512 + m) v) ≡ set_word r (512 + m) v
 mdcfg_alone h m v good p small r c =
     plain_write r (Mdcfg m) (512 + m) v (there h r (Mdcfg m) good c.shape (has_mdcfg h m good.mdcfg p)) (λ k. refl) (mdcfg_unlocked r m (Mdcfg m) c.mdcfglck) (omega arith) (omega arith)
 
 pub plain_mdcfg : (h : Shape) (m v : ℕ) → IsPolicyShape h → m < h.domains → v < 2 ^ 16 → IsPlain h (pair (512 + m) v)
-plain_mdcfg h m v good p small = record {
-  alone = mdcfg_alone h m v good p small;
-  cleared = mdcfg_alone h m 0 good p (omega arith);
-  table = omega arith;
-  inside = let few = good.valid.domains in omega arith;
-  even = λ f s l e. absurd (let few = good.valid.domains in omega arith);
-}
+plain_mdcfg h m v good p small =
+    let few = good.valid.domains in plain_below h (512 + m) v (2 ^ 16) (λ w l. mdcfg_alone h m w good p l) small (omega arith) (omega arith) (λ f s l e. omega arith)
 
 enable_ruled : (d old v : ℕ) → old % 2 ≡ 0 → v % 2 ≡ 0 → v / 2 < 2 ^ d → ((0 + bit_or (old / 2 ^ 0 % 2 ^ 1) (v / 2 ^ 0 % 2 ^ 1) * 2 ^ 0) + v / 2 ^ 1 % 2 ^ d * 2 ^ 1) ≡ v
 enable_ruled d old v e f small =
@@ -153,13 +159,10 @@ high_enable_alone h s v good f p small r c =
     (low_ruled (r.shape.domains - 31) v (subst (λ n. v < 2 ^ (n - 31)) d small)) (omega arith)
 
 pub plain_high_enable : (h : Shape) (s v : ℕ) → IsPolicyShape h → h.srcmd ≡ 0 → s < h.rrids → v < 2 ^ (h.domains - 31) → IsPlain h (pair (1025 + 8 * s) v)
-plain_high_enable h s v good f p small = record {
-  alone = high_enable_alone h s v good f p small;
-  cleared = high_enable_alone h s 0 good f p (pow_pos (h.domains - 31));
-  table = omega arith;
-  inside = let many = good.valid.rrids in let some = good.valid.entries in omega arith;
-  even = λ f s l e. absurd (omega arith);
-}
+plain_high_enable h s v good f p small =
+    let many = good.valid.rrids in
+    let some = good.valid.entries in
+    plain_below h (1025 + 8 * s) v (2 ^ (h.domains - 31)) (λ w l. high_enable_alone h s w good f p l) small (omega arith) (omega arith) (λ g t l e. omega arith)
 
 permission_alone : (h : Shape) (m v : ℕ) → IsPolicyShape h → h.srcmd ≡ 2 → m < h.domains → v < 2 ^ (2 * min h.rrids 16) → (r : Registers) → IsUnlocked h r → guarded_write r (pair (1024 + 8 * m) v) ≡ set_word r (1024 + 8 * m) v
 permission_alone h m v good f p small r c =
@@ -169,13 +172,10 @@ permission_alone h m v good f p small r c =
     (low_ruled (2 * min r.shape.rrids 16) v (subst (λ n. v < 2 ^ (2 * min n 16)) k small)) (omega arith)
 
 pub plain_permission : (h : Shape) (m v : ℕ) → IsPolicyShape h → h.srcmd ≡ 2 → m < h.domains → v < 2 ^ (2 * min h.rrids 16) → IsPlain h (pair (1024 + 8 * m) v)
-plain_permission h m v good f p small = record {
-  alone = permission_alone h m v good f p small;
-  cleared = permission_alone h m 0 good f p (pow_pos (2 * min h.rrids 16));
-  table = omega arith;
-  inside = let few = good.valid.domains in let some = good.valid.entries in omega arith;
-  even = λ e s l q. absurd (omega arith);
-}
+plain_permission h m v good f p small =
+    let few = good.valid.domains in
+    let some = good.valid.entries in
+    plain_below h (1024 + 8 * m) v (2 ^ (2 * min h.rrids 16)) (λ w l. permission_alone h m w good f p l) small (omega arith) (omega arith) (λ g s l e. omega arith)
 
 high_permission_alone : (h : Shape) (m v : ℕ) → IsPolicyShape h → h.srcmd ≡ 2 → m < h.domains → v < 2 ^ (2 * (h.rrids - 16)) → (r : Registers) → IsUnlocked h r → guarded_write r (pair (1025 + 8 * m) v) ≡ set_word r (1025 + 8 * m) v
 high_permission_alone h m v good f p small r c =
@@ -186,13 +186,10 @@ high_permission_alone h m v good f p small r c =
     (low_ruled (2 * (r.shape.rrids - 16)) v (subst (λ n. v < 2 ^ (2 * (n - 16))) k small)) (omega arith)
 
 pub plain_high_permission : (h : Shape) (m v : ℕ) → IsPolicyShape h → h.srcmd ≡ 2 → m < h.domains → v < 2 ^ (2 * (h.rrids - 16)) → IsPlain h (pair (1025 + 8 * m) v)
-plain_high_permission h m v good f p small = record {
-  alone = high_permission_alone h m v good f p small;
-  cleared = high_permission_alone h m 0 good f p (pow_pos (2 * (h.rrids - 16)));
-  table = omega arith;
-  inside = let few = good.valid.domains in let some = good.valid.entries in omega arith;
-  even = λ e s l q. absurd (omega arith);
-}
+plain_high_permission h m v good f p small =
+    let few = good.valid.domains in
+    let some = good.valid.entries in
+    plain_below h (1025 + 8 * m) v (2 ^ (2 * (h.rrids - 16))) (λ w l. high_permission_alone h m w good f p l) small (omega arith) (omega arith) (λ g s l e. omega arith)
 
 addr_alone : (h : Shape) (i v : ℕ) → i < h.entries → v < 2 ^ 32 → (r : Registers) → IsUnlocked h r → guarded_write r (pair (2048 + 4 * i) v) ≡ set_word r (2048 + 4 * i) v
 addr_alone h i v p small r c =
@@ -200,13 +197,7 @@ addr_alone h i v p small r c =
     plain_write r (EntryAddr i) (2048 + 4 * i) v (register_at-EntryAddr r.shape i (omega arith)) (λ k. refl) (entry_unlocked r i (EntryAddr i) c.entrylck) (omega arith) small
 
 pub plain_addr : (h : Shape) (i v : ℕ) → i < h.entries → v < 2 ^ 32 → IsPlain h (pair (2048 + 4 * i) v)
-plain_addr h i v p small = record {
-  alone = addr_alone h i v p small;
-  cleared = addr_alone h i 0 p (omega arith);
-  table = omega arith;
-  inside = omega arith;
-  even = λ f s l e. absurd (omega arith);
-}
+plain_addr h i v p small = plain_below h (2048 + 4 * i) v (2 ^ 32) (λ w l. addr_alone h i w p l) small (omega arith) (omega arith) (λ f s l e. omega arith)
 
 addrh_alone : (h : Shape) (i v : ℕ) → i < h.entries → v < 2 ^ 18 → (r : Registers) → IsUnlocked h r → guarded_write r (pair (2049 + 4 * i) v) ≡ set_word r (2049 + 4 * i) v
 addrh_alone h i v p small r c =
@@ -214,13 +205,7 @@ addrh_alone h i v p small r c =
     plain_write r (EntryAddrh i) (2049 + 4 * i) v (register_at-EntryAddrh r.shape i (omega arith)) (λ k. refl) (entry_unlocked r i (EntryAddrh i) c.entrylck) (omega arith) (omega arith)
 
 pub plain_addrh : (h : Shape) (i v : ℕ) → i < h.entries → v < 2 ^ 18 → IsPlain h (pair (2049 + 4 * i) v)
-plain_addrh h i v p small = record {
-  alone = addrh_alone h i v p small;
-  cleared = addrh_alone h i 0 p (omega arith);
-  table = omega arith;
-  inside = omega arith;
-  even = λ f s l e. absurd (omega arith);
-}
+plain_addrh h i v p small = plain_below h (2049 + 4 * i) v (2 ^ 18) (λ w l. addrh_alone h i w p l) small (omega arith) (omega arith) (λ f s l e. omega arith)
 
 cfg_alone : (h : Shape) (i v : ℕ) → i < h.entries → v < 2 ^ 5 → (r : Registers) → IsUnlocked h r → guarded_write r (pair (2050 + 4 * i) v) ≡ set_word r (2050 + 4 * i) v
 cfg_alone h i v p small r c =
@@ -228,13 +213,7 @@ cfg_alone h i v p small r c =
     plain_write r (EntryCfg i) (2050 + 4 * i) v (register_at-EntryCfg r.shape i (omega arith)) (λ k. refl) (entry_unlocked r i (EntryCfg i) c.entrylck) (omega arith) (omega arith)
 
 pub plain_cfg : (h : Shape) (i v : ℕ) → i < h.entries → v < 2 ^ 5 → IsPlain h (pair (2050 + 4 * i) v)
-plain_cfg h i v p small = record {
-  alone = cfg_alone h i v p small;
-  cleared = cfg_alone h i 0 p (omega arith);
-  table = omega arith;
-  inside = omega arith;
-  even = λ f s l e. absurd (omega arith);
-}
+plain_cfg h i v p small = plain_below h (2050 + 4 * i) v (2 ^ 5) (λ w l. cfg_alone h i w p l) small (omega arith) (omega arith) (λ f s l e. omega arith)
 
 -- ---- lists of writes
 
