@@ -30,10 +30,12 @@ use Rattle.shared_log.specs.Words.{AllEventWords}
 use Rattle.history_laws.specs.Verdicts.{verdict_of, IsDecided}
 use Rattle.event_words.proofs.Runs.{event_of_word-word_of}
 use Rattle.event_words.proofs.Cases.{by_test}
-use Rattle.history_laws.proofs.QueueLaw.{written-shape, recorded-shape}
+use Rattle.history_laws.proofs.QueueLaw.{written-shape}
 use Rattle.history_laws.proofs.VerdictLaw.{law_verdicts}
 use Rattle.history_laws.proofs.WordHistories.{events_at_words, event_at_words, reply_at_words, word_at_place}
+use Rattle.history_laws.proofs.TicketReplies.{get_last}
 use Rattle.unit_core.proofs.HeldBack.{by_cond}
+use Rattle.unit_core.proofs.Sims.{recorded_shape}
 use Rattle.checker_workers.specs.Ports.{PortView, IsAtReset, MakesEvent, state_after}
 use Rattle.checker_workers.proofs.Making.{reply_of_event, submit_on}
 
@@ -45,12 +47,12 @@ HasShape shape r = r.0.registers.shape ≡ shape
 submit_shape : (k : ℕ) (u : UnitState) (c : ℕ) (a : Access) (x y z : Bool) → HasShape u.registers.shape (submit_on k u c a x y z)
 submit_shape k u c a true y z = refl
 submit_shape k u c a false true z = refl
-submit_shape k u c a false false true = recorded-shape u.registers a (stall_denial u)
+submit_shape k u c a false false true = recorded_shape u.registers a (stall_denial u)
 submit_shape k u c a false false false = refl
 
 verdict_shape : (u : UnitState) (a : Access) (d : Decision) → HasShape u.registers.shape (verdict_step u a d)
 verdict_shape u a decisions.Allowed = refl
-verdict_shape u a (decisions.Denied kind entry mute_irq mute_err) = recorded-shape u.registers a (denial u.registers kind entry mute_irq mute_err)
+verdict_shape u a (decisions.Denied kind entry mute_irq mute_err) = recorded_shape u.registers a (denial u.registers kind entry mute_irq mute_err)
 
 judge_shape : (u : UnitState) (place caller : ℕ) (o : Option Submission) → HasShape u.registers.shape (judge_item u place caller o)
 judge_shape u place caller None = refl
@@ -112,10 +114,6 @@ shape_valid : (us : List UnitState) (u : ℕ) (x : UnitState) → AllByRecursion
 shape_valid [] u x all q = absurd (let n : None ≡ Some x = q in cc)
 shape_valid (y ∷ us) zero x all q = let same : y ≡ x = cc in subst (λ (z : UnitState). IsValidShape z.registers.shape) same all.0
 shape_valid (y ∷ us) (suc u) x all q = shape_valid us u x all.1 q
-
-get_last : (words : List ℕ) (w : ℕ) → slice_get (words ++ w ∷ []) (length words) ≡ Some w
-get_last [] w = refl
-get_last (v ∷ ws) w = get_last ws w
 
 event_valid : (shapes : List Shape) (words : List ℕ) → AllEventWords words → (k : ℕ) (e : Event) → event_at (history_of shapes words) k ≡ Some e → IsValidEvent e
 event_valid shapes words all k e q = there (slice_get words k) refl (sym (events_at_words words all k) ∙ q)

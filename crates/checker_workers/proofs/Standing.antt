@@ -1,6 +1,6 @@
 -- A judgement of an open ticket finds its submission: it replies Held or a verdict.
 use Rattle.std.proofs.Common.{◌≡◌, ℕ, ◌<◌, true, false, List, [], ◌∷◌, ◌++◌, Some, length, eqb, refl, sym, ap, ◌∙◌, subst, ⊎_elim, ◌⊎◌, inl, inr}
-use Rattle.std.specs.Prelude.{◌&&◌, slice_get, nat_lt}
+use Rattle.std.specs.Prelude.{◌&&◌, nat_lt}
 use Rattle.std.specs.List.{AllByRecursion, list_any}
 use Rattle.std.proofs.lemmas.Bool.{and_parts, and_from, eqb-true, eq-eqb, lt-ltb}
 use Rattle.std.proofs.lemmas.Option.{slice_get_within}
@@ -29,7 +29,7 @@ use Rattle.history_laws.specs.Tickets.{IsTaken, IsOwnJudgement}
 use Rattle.history_laws.proofs.Accepted.{Submits, taken_submission}
 use Rattle.history_laws.proofs.WordHistories.{event_at_words, reply_at_words, is_entry, has_entry, length_events}
 use Rattle.history_laws.proofs.LoggedTests.{found_kept, none_kept}
-use Rattle.history_laws.proofs.TicketReplies.{IsJudged, judged_open, same_event_before, same_reply_before}
+use Rattle.history_laws.proofs.TicketReplies.{IsJudged, judged_open, same_event_before, same_reply_before, get_last}
 use Rattle.checker_workers.specs.Ports.{PortView, IsAtReset, MakesEvent, port_events, state_after}
 use Rattle.checker_workers.specs.TicketViews.{TicketView}
 use Rattle.checker_workers.specs.Tickets.{IsOpenTicket, is_ticket_submission, is_end, submits_on}
@@ -75,10 +75,6 @@ ends t x v later e r =
     (and_from (same_event (judgement t) x.event) (is_verdict x.reply) (ap (same_event (judgement t)) e ∙ same_event_self (judgement t)) (ap is_verdict r))
 
 -- ---- over words
-
-get_last : (words : List ℕ) (w : ℕ) → slice_get (words ++ w ∷ []) (length words) ≡ Some w
-get_last [] w = refl
-get_last (v ∷ ws) w = get_last ws w
 
 prefix : (words : List ℕ) (w : ℕ) → AllByRecursion IsEventWord (words ++ w ∷ []) → AllByRecursion IsEventWord words
 prefix [] w h = tt

@@ -14,7 +14,7 @@ use Rattle.event_words.specs.Word.{word_of}
 use Rattle.event_words.specs.Events.{same_event}
 use Rattle.event_words.specs.Records.{judgements, polls, hits, is_verdict}
 use Rattle.shared_log.specs.Callers.{SharedView, Belongs}
-use Rattle.cascade_path.proofs.Repeats.{judgements_left, judgements-held, judgements-last}
+use Rattle.cascade_path.proofs.Repeats.{judgements_left, judgements-held, judgements-last, some_judgements}
 use Rattle.checker_workers.specs.declared.ticket.Judged.TheVariants.{Done, Held}
 use Rattle.checker_workers.specs.Ports.{PortView, EndWhole, MakesEvent, port_events, logged_at, unit_count}
 use Rattle.checker_workers.specs.TicketViews.{TicketView}
@@ -197,10 +197,6 @@ settling_held p q s t again next max i b h judges =
       ticket = j.ticket.0;
       still = subst (IsOpenTicket s) j.ticket.0 (subst (λ (v : TicketView). IsOpenTicket s v) (sym j.ticket.0) j.ticket.1);
     }
-
-some_judgements : (max : ℕ) (event : Event) (xs : List LoggedEvent) → 1 ≤ max → judgements max event xs ≡ judgements_left max event xs
-some_judgements zero event xs h = absurd (omega arith)
-some_judgements (suc n) event xs h = refl
 
 pub settling_done : (p q s : PortView) (t again : TicketView) (v : Verdict) (max i : ℕ) → Settling p t max i q again → i < max → Judges q again (Done v) s → SettlesTicket p t max (Done v) s
 settling_done p q s t again v max i b h judges =

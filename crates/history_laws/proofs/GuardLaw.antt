@@ -28,7 +28,8 @@ use Rattle.history_laws.specs.Guards.{LawGuards}
 use Rattle.unit_core.proofs.Runs.{own_next, own_state, own_induction, shape_there, own_at}
 use Rattle.unit_core.proofs.Items.{submit_cases, judge_cases}
 use Rattle.unit_core.proofs.Registers.{recorded_outside, AreWords, words_reset, words_written, words_recorded}
-use Rattle.history_laws.proofs.QueueLaw.{written-shape, recorded-shape}
+use Rattle.unit_core.proofs.Sims.{recorded_shape}
+use Rattle.history_laws.proofs.QueueLaw.{written-shape}
 use Rattle.history_laws.proofs.Guarding.{Follows, guarded_by, guarded_stays}
 
 -- ---- an earlier and a later state
@@ -66,7 +67,7 @@ same_le a b e = omega arith
 
 recorded_follows : (r : Registers) (a : Access) (d : Denial) → Follows r (recorded r a d)
 recorded_follows r a d = record {
-  shape = recorded-shape r a d;
+  shape = recorded_shape r a d;
   kept = λ index i h. ap (λ n. has_bit n i) (recorded_outside r a d index (guarded_outside r index i h));
   domains = same_le _ _ (ap (bits_of 1 7) (recorded_outside r a d 18 (inl (omega arith))));
   entries = same_le _ _ (ap (bits_of 1 16) (recorded_outside r a d 19 (inl (omega arith))));

@@ -23,7 +23,7 @@ use Rattle.unit_core.specs.Histories.{IsBoot, IsOfLane, BootComesFirst, HaveReco
 use Rattle.event_words.specs.Sections.{HasNoRegisterWrites as IsQuietSection}
 use Rattle.event_words.proofs.EventWords.{word_event}
 use Rattle.history_laws.proofs.QuietRecords.{IsNoWriteEvent, IsNoLoggedWrite, HaveNoWrites, quiet_record}
-use Rattle.history_laws.proofs.Writes.{append_nothing, all_parts, all_both, all_passing, all_each}
+use Rattle.history_laws.proofs.Writes.{append_nothing, all_parts, all_both, all_passing, all_each, some_of}
 use Rattle.history_laws.proofs.UnitStands.{IsOnZero}
 use Rattle.history_laws.proofs.WriteRecords.{write_by, event_of, IsDrainRead, IsPlanRecord, plan_of, plan_record, writes_record, release_write}
 
@@ -116,10 +116,6 @@ own_others lanes xs h =
     ∙ ap (λ ys. ys ++ filter (is_by 1) h.others) (keeps_none (is_by 1) h.boot (all_of (IsBy 0) (λ x. is_by 1 x ≡ false) h.boot (λ x e. ne_eqb (caller_of x.event) 1 (λ f. absurd (omega arith))) h.of_boot)))
 
 -- ---- the further lanes write nothing
-
-some_of : {A : Type 0} (o : Option A) → IsSome o → (a : A) × (o ≡ Some a)
-some_of None h = absurd (let n : false ≡ true = h in cc)
-some_of (Some a) h = (a, refl)
 
 if_there : {A : Type 0} {P : Type 0} (o : Option A) → IfSome o (λ a. P) → IsSome o → P
 if_there None f h = absurd (let n : false ≡ true = h in cc)

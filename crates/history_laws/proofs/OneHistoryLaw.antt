@@ -1,6 +1,5 @@
 -- A script without lanes has one legal history.
-use Rattle.std.proofs.Common.{◌≡◌, ℕ, suc, ◌++◌, true, false, List, [], ◌∷◌, Option, Some, None, map, filter, cond, refl, sym, ap, subst, ◌∙◌, arith}
-use Rattle.std.specs.Prelude.{IsSome}
+use Rattle.std.proofs.Common.{◌≡◌, ℕ, suc, ◌++◌, List, [], ◌∷◌, map, filter, cond, refl, sym, ap, subst, ◌∙◌, arith}
 use Rattle.std.specs.List.{AllByRecursion}
 use Rattle.std.proofs.lemmas.Bool.{eq-eqb}
 use Rattle.event_words.specs.declared.shape.Shape.{Shape}
@@ -18,6 +17,7 @@ use Rattle.unit_core.specs.Histories.{BootComesFirst, IsBoot, IsOfLane, logged_i
 use Rattle.event_words.proofs.EventWords.{word_event}
 use Rattle.history_laws.proofs.OneRecord.{entries, section_same}
 use Rattle.history_laws.specs.OneHistory.{LawOneHistory}
+use Rattle.history_laws.proofs.Writes.{some_of}
 
 abbrev boot_entries : ℕ → FabricState → List Event → List LoggedEvent
 boot_entries k s es = entries state_after_word reply_to_word k s es
@@ -68,10 +68,6 @@ own_entries k s (e ∷ es) h =
     let rest = boot_entries (suc k) (state_after_word s k (word_of e)) es in
     ap (λ b. cond b (x ∷ filter (is_by 0) rest) (filter (is_by 0) rest)) (eq-eqb (caller_of e) 0 h.0)
     ∙ ap (λ xs. x ∷ xs) (own_entries (suc k) (state_after_word s k (word_of e)) es h.1)
-
-some_of : {A : Type 0} (o : Option A) → IsSome o → (a : A) × (o ≡ Some a)
-some_of None h = absurd (let n : false ≡ true = h in cc)
-some_of (Some a) h = (a, refl)
 
 record_of : (shapes : List Shape) (words : List ℕ) (b : BootEvents words) → events_by 0 (logged_in shapes words) ≡ boot_entries 0 (fabric_at_reset shapes) b.events
 record_of shapes words b =

@@ -1,20 +1,16 @@
-use Rattle.std.proofs.Common.{◌≡◌, ℕ, ◌+◌, ◌/◌, ◌%◌, ◌^◌, ◌<◌, ◌≤◌, Bool, true, false, cond, eqb, List, Option, Some, None, length, set, refl, sym, ap, ◌∙◌, subst, arith}
+use Rattle.std.proofs.Common.{◌≡◌, ℕ, ◌+◌, ◌<◌, ◌≤◌, Bool, true, false, cond, length, sym, ap, ◌∙◌, subst, arith}
 use Rattle.std.specs.List.{AllByRecursion}
-use Rattle.std.proofs.lemmas.Bool.{cond_both, ltb-true, lt-ltb, false≢true}
-use Rattle.std.proofs.lemmas.List.{get_or_past, length-set, length-replicate}
-use Rattle.std.proofs.lemmas.List.FromFn.{length-map-range_with_len}
+use Rattle.std.proofs.lemmas.Bool.{ltb-true, lt-ltb, false≢true}
+use Rattle.std.proofs.lemmas.List.{length-replicate}
 use Rattle.std.proofs.lemmas.List.Elements.{All-from_recursion}
-use Rattle.std.proofs.lemmas.Bool.{cases_lt}
-use Rattle.std.proofs.Common.{⊎_elim}
 use Rattle.event_words.specs.declared.shape.Shape.{Shape}
 use Rattle.event_words.specs.declared.access.Access.{Access}
 use Rattle.event_words.specs.declared.reply.Denial.{Denial}
 use Rattle.event_words.specs.declared.event.Event.{Event}
 use Rattle.event_words.specs.declared.event.Event.TheVariants.{RegWrite, RegRead, Submit, Judge}
-use Rattle.event_words.specs.declared.register.Register.{Register}
-use Rattle.event_words.specs.Registers.{Registers, written, write_at, register_at}
+use Rattle.event_words.specs.Registers.{Registers, written, register_at}
 use Rattle.event_words.specs.Denials.{recorded}
-use Rattle.event_words.specs.Stalls.{flag_of, flags_after, flags_after_mdstall, flags_after_rridscp}
+use Rattle.event_words.specs.Stalls.{flags_after}
 use Rattle.unit_core.specs.declared.Submission.{Submission}
 use Rattle.unit_core.specs.Places.{IsHeldBack}
 use Rattle.unit_core.proofs.HeldBack.{all_released}
@@ -22,39 +18,14 @@ use Rattle.unit_core.specs.Units.{UnitState, unit_step, after_write, closed, ope
 use Rattle.unit_core.specs.Histories.{History}
 use Rattle.history_laws.specs.Queues.{HasQueueInOrder, HasStalledRequester, LawQueued}
 use Rattle.unit_core.proofs.Runs.{own_state, of_each, own_induction}
-use Rattle.unit_core.proofs.Registers.{recorded_cases}
 use Rattle.unit_core.proofs.Items.{submit_cases, judge_cases, all_append, all_of, all_without, count_append, count_without, count_released}
+use Rattle.unit_core.proofs.Sims.{written_shape, recorded_shape, flags_after_len}
+use Rattle.unit_core.proofs.Busy.{flag_known}
 
 -- ---- the shape stays
 
-write_at-shape : (r : Registers) (index value keep : ℕ) (o : Option Register) → (write_at r index value keep o).shape ≡ r.shape
-write_at-shape r index value keep None = refl
-write_at-shape r index value keep (Some q) = refl
-
 pub written-shape : (r : Registers) (index value keep : ℕ) → (written r index value keep).shape ≡ r.shape
-written-shape r index value keep = write_at-shape r index value keep (register_at r.shape index)
-
-pub recorded-shape : (r : Registers) (a : Access) (d : Denial) → (recorded r a d).shape ≡ r.shape
-recorded-shape r a d = recorded_cases (λ s. s.shape ≡ r.shape) r a d (λ info addr addrh id. refl) refl
-
--- ---- each known requester has a flag
-
-flags_after_rridscp-length : (flags : List Bool) (value : ℕ) → length (flags_after_rridscp flags value) ≡ length flags
-flags_after_rridscp-length flags value =
-    cond_both (eqb (value / 2 ^ 30) 1) (set flags (value % 2 ^ 16) true) (cond (eqb (value / 2 ^ 30) 2) (set flags (value % 2 ^ 16) false) flags) (λ (fs : List Bool). length fs ≡ length flags)
-    (λ e. length-set flags (value % 2 ^ 16) true)
-    (λ e. cond_both (eqb (value / 2 ^ 30) 2) (set flags (value % 2 ^ 16) false) flags (λ (fs : List Bool). length fs ≡ length flags) (λ f. length-set flags (value % 2 ^ 16) false) (λ f. refl))
-
-flags_after-length : (r : Registers) (flags : List Bool) (index value : ℕ) → length flags ≡ r.shape.rrids → length (flags_after r flags index value) ≡ r.shape.rrids
-flags_after-length r flags index value h =
-    cond_both (eqb index 12) (flags_after_mdstall r value) (cond (eqb index 14) (flags_after_rridscp flags value) flags) (λ (fs : List Bool). length fs ≡ r.shape.rrids)
-    (λ e. length-map-range_with_len _ 0 r.shape.rrids)
-    (λ e. cond_both (eqb index 14) (flags_after_rridscp flags value) flags (λ (fs : List Bool). length fs ≡ r.shape.rrids) (λ f. flags_after_rridscp-length flags value ∙ h) (λ f. h))
-
-flagged_below : (flags : List Bool) (s : ℕ) → flag_of flags s ≡ true → s < length flags
-flagged_below flags s e = ⊎_elim (λ (below : s < length flags). below)
-    (λ (past : length flags ≤ s). absurd (false≢true (sym (get_or_past flags s false past) ∙ e)))
-    (cases_lt s (length flags))
+written-shape r index value keep = written_shape r index value keep (register_at r.shape index)
 
 -- ---- what holds of a unit before each event
 
@@ -65,16 +36,16 @@ pub record IsSound (x : UnitState) : Type 0 where
 
 recorded_sound : (x : UnitState) (a : Access) (d : Denial) → IsSound x → IsSound (record x { registers = recorded x.registers a d })
 recorded_sound x a d h = record {
-  flags = h.flags ∙ ap (λ (s : Shape). s.rrids) (sym (recorded-shape x.registers a d));
+  flags = h.flags ∙ ap (λ (s : Shape). s.rrids) (sym (recorded_shape x.registers a d));
   held = h.held;
-  fits = subst (λ (s : Shape). queue_length x ≤ s.queue) (sym (recorded-shape x.registers a d)) h.fits;
+  fits = subst (λ (s : Shape). queue_length x ≤ s.queue) (sym (recorded_shape x.registers a d)) h.fits;
 }
 
 write_sound : (x : UnitState) (index value : ℕ) → IsSound x → IsSound (after_write x index value)
 write_sound x index value h =
     let e = written-shape x.registers index value _ in
     record {
-      flags = flags_after-length x.registers x.flags index value h.flags ∙ ap (λ (s : Shape). s.rrids) (sym e);
+      flags = flags_after_len x.registers x.flags index value h.flags ∙ ap (λ (s : Shape). s.rrids) (sym e);
       held = all_released (flags_after x.registers x.flags index value) x.submissions;
       fits = subst (λ (s : Shape). queue_length (after_write x index value) ≤ s.queue) (sym e) (let c = count_released (flags_after x.registers x.flags index value) x.submissions in omega (arith, h.fits));
     }
@@ -116,6 +87,6 @@ law_queued h k u = of_each HasQueueInOrder h u k (λ shape e.
     let x = own_state h u shape k in
     let s = own_sound h u shape k in
     record {
-      stalled = All-from_recursion (λ (item : Submission). item.queued ≡ true → HasStalledRequester x item) x.submissions (all_of (IsHeldBack x.flags) (λ (item : Submission). item.queued ≡ true → HasStalledRequester x item) x.submissions (λ item held q. (lt-ltb item.access.rrid x.registers.shape.rrids (subst (λ n. item.access.rrid < n) s.flags (flagged_below x.flags item.access.rrid (held q))), held q)) s.held);
+      stalled = All-from_recursion (λ (item : Submission). item.queued ≡ true → HasStalledRequester x item) x.submissions (all_of (IsHeldBack x.flags) (λ (item : Submission). item.queued ≡ true → HasStalledRequester x item) x.submissions (λ item held q. (lt-ltb item.access.rrid x.registers.shape.rrids (subst (λ n. item.access.rrid < n) s.flags (flag_known x.flags item.access.rrid (held q))), held q)) s.held);
       fits = s.fits;
     })

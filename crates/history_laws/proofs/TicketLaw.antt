@@ -68,7 +68,7 @@ later_closed h u c p k closed = record { place = closed.place; verdict = closed.
 taken_once : (h : History) (k : ℕ) (e f : Event) → taken_at h k ≡ Some e → taken_at h k ≡ Some f → e ≡ f
 taken_once h k e f p q = let n : Some e ≡ Some f = sym p ∙ q in cc
 
-reply_once : (h : History) (k : ℕ) (e f : Reply) → reply_at h k ≡ Some e → reply_at h k ≡ Some f → e ≡ f
+pub reply_once : (h : History) (k : ℕ) (e f : Reply) → reply_at h k ≡ Some e → reply_at h k ≡ Some f → e ≡ f
 reply_once h k e f p q = let n : Some e ≡ Some f = sym p ∙ q in cc
 
 either_first : (h : History) (u c p : ℕ) (a : Access) (shape : Shape) → slice_get h.shapes u ≡ Some shape → IsTaken h u c p a → Either h u c p (suc p) a (own_state h u shape (suc p))

@@ -16,16 +16,13 @@ use Rattle.unit_core.specs.Units.{fabric_at_reset}
 use Rattle.unit_core.specs.Fabrics.{state_after_word, reply_to_word}
 use Rattle.unit_core.specs.Histories.{History, event_at, reply_at, history_of}
 use Rattle.history_laws.specs.Tickets.{IsTaken, IsOwnJudgement, IsOwnVerdict}
-use Rattle.history_laws.proofs.TicketLaw.{ticket_at}
+use Rattle.history_laws.proofs.TicketLaw.{ticket_at, reply_once}
 use Rattle.history_laws.proofs.Accepted.{Submits}
 use Rattle.history_laws.proofs.WordHistories.{word_at_place, event_at_words, reply_at_words}
 
 -- the reply of a judgement that finds its submission
 abbrev pub IsJudged : Reply → Type 0
 IsJudged r = (r ≡ replies.Held) ⊎ ((v : Verdict) × (r ≡ replies.Verdict v))
-
-reply_once : (h : History) (k : ℕ) (e f : Reply) → reply_at h k ≡ Some e → reply_at h k ≡ Some f → e ≡ f
-reply_once h k e f p q = let n : Some e ≡ Some f = sym p ∙ q in cc
 
 held_unless : (h : History) (u c p k : ℕ) (a : Access) (r : Reply) → IsTaken h u c p a → IsOwnJudgement h u c p k
     → ((j : ℕ) → j < k → IsOwnVerdict h u c p j → ⊥) → reply_at h k ≡ Some r → ((v : Verdict) → r ≡ replies.Verdict v → ⊥) → r ≡ replies.Held
@@ -50,7 +47,7 @@ get_left [] more k w q = absurd (let n : None ≡ Some w = q in cc)
 get_left (v ∷ ws) more zero w q = q
 get_left (v ∷ ws) more (suc k) w q = get_left ws more k w q
 
-get_last : (words : List ℕ) (w : ℕ) → slice_get (words ++ w ∷ []) (length words) ≡ Some w
+pub get_last : (words : List ℕ) (w : ℕ) → slice_get (words ++ w ∷ []) (length words) ≡ Some w
 get_last [] w = refl
 get_last (v ∷ ws) w = get_last ws w
 

@@ -1,7 +1,7 @@
 -- What the register writes of a history leave in unit 0, whatever stands between them.
-use Rattle.std.proofs.Common.{◌≡◌, ℕ, zero, suc, ◌+◌, ◌-◌, ◌/◌, ◌%◌, ◌^◌, ◌<◌, ◌≤◌, ◌++◌, ltb, ◌==◌, ◌&&◌, inl, inr, Bool, true, false, cond, List, [], ◌∷◌, Option, Some, None, length, map, take, drop, append_assoc, set, refl, sym, ap, subst, ◌∙◌, arith, ⊎_elim}
+use Rattle.std.proofs.Common.{◌≡◌, ℕ, zero, suc, ◌+◌, ◌-◌, ◌/◌, ◌%◌, ◌^◌, ◌<◌, ◌≤◌, ◌++◌, ltb, ◌==◌, ◌&&◌, inl, inr, Bool, true, false, cond, List, [], ◌∷◌, Option, Some, None, length, take, drop, append_assoc, set, refl, sym, ap, subst, ◌∙◌, arith, ⊎_elim}
 use Rattle.std.specs.Prelude.{slice_get, nat_le, option_and_then}
-use Rattle.std.specs.List.{AllByRecursion, range_with_len}
+use Rattle.std.specs.List.{AllByRecursion}
 use Rattle.std.specs.Int.{bit_at}
 use Rattle.std.proofs.lemmas.Nat.Bits.{bit_at-zero, bit_at-suc}
 use Rattle.std.proofs.lemmas.List.{length-set, length-replicate, get_or-set_same, get_or-set_other, get_or-replicate}
@@ -30,6 +30,7 @@ use Rattle.unit_core.specs.Submitted.{taken_at}
 use Rattle.unit_core.proofs.Items.{submit_cases, judge_cases}
 use Rattle.unit_core.proofs.Registers.{recorded_cases, recorded_outside}
 use Rattle.unit_core.proofs.Runs.{own_state, own_next, as_it_is}
+use Rattle.unit_core.proofs.Sims.{flags_after_len}
 use Rattle.history_laws.proofs.Writes.{write_of, writes, writes_next, writes_past, writes_cut, append_nothing, all_get}
 
 -- ---- the flag of a requester
@@ -130,18 +131,6 @@ by_rridscp flags v s b l e = by (v / 2 ^ 30 == 1) (v / 2 ^ 30 == 2)
     by false true = one_set flags (v % 2 ^ 16) s b false l e
     by false false = e
 
-count_kept : (r : Registers) (flags : List Bool) (index value : ℕ) → length flags ≡ r.shape.rrids → length (flags_after r flags index value) ≡ r.shape.rrids
-count_kept r flags index value e =
-    cond_both (index == 12) (flags_after_mdstall r value) _ (λ fs. length fs ≡ r.shape.rrids) (λ t. length_mapped r.shape.rrids 0)
-    (λ t. cond_both (index == 14) (flags_after_rridscp flags value) flags (λ fs. length fs ≡ r.shape.rrids)
-    (λ t. cond_both (value / 2 ^ 30 == 1) (set flags (value % 2 ^ 16) true) _ (λ fs. length fs ≡ r.shape.rrids) (λ t. length-set flags (value % 2 ^ 16) true ∙ e)
-    (λ t. cond_both (value / 2 ^ 30 == 2) (set flags (value % 2 ^ 16) false) flags (λ fs. length fs ≡ r.shape.rrids) (λ t. length-set flags (value % 2 ^ 16) false ∙ e) (λ t. e)))
-    (λ t. e))
-  where
-    length_mapped : (n a : ℕ) → length (map (λ s. differs (has_bit value 0) (is_selected r value s)) (range_with_len a n)) ≡ n
-    length_mapped zero a = refl
-    length_mapped (suc n) a = ap (λ m. suc m) (length_mapped n (a + 1))
-
 flag_written : (h : Shape) (ps : List RegPair) (x : UnitState) (index value s : ℕ) → IsNext h ps (pair index value) → UnitStands h ps x → s < h.rrids
     → flag_of (flags_after x.registers x.flags index value) s ≡ flag_after s (flag_from s false ps) (pair index value)
 flag_written h ps x index value s next c l = by (index == 12) (index == 14) refl refl
@@ -161,7 +150,7 @@ write_stands h ps x index value good next c =
     record {
       registers = stands_step h ps x.registers (pair index value) good next c.registers;
       unselected = other_stays x.registers index value (guarded_bits x.registers index) 13 (register_at x.registers.shape index) (λ e. next_not h ps (pair index value) next (sym e)) ∙ c.unselected;
-      count = count_kept x.registers x.flags index value (c.count ∙ sym rrids) ∙ rrids;
+      count = flags_after_len x.registers x.flags index value (c.count ∙ sym rrids) ∙ rrids;
       stalled = λ s l. flag_written h ps x index value s next c l ∙ sym (flag_append s false ps (pair index value ∷ []));
     }
 

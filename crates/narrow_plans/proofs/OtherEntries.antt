@@ -5,6 +5,7 @@ use Rattle.std.specs.Option.{option_map}
 use Rattle.std.proofs.lemmas.List.{get_or-set_other, get_or-set_same, set-get_or}
 use Rattle.std.proofs.lemmas.Bool.{ltb-true}
 use Rattle.std.proofs.lemmas.Bool.Decides.{nat_tests}
+use Rattle.unit_core.proofs.Sims.{written_shape}
 use Rattle.event_words.specs.declared.shape.Shape.{Shape}
 use Rattle.event_words.specs.declared.access.Kind.{Kind}
 use Rattle.event_words.specs.declared.access.Kind.TheVariants.{Read, Write, Fetch}
@@ -198,15 +199,11 @@ words_stay : (before : Registers) (index value keep : ℕ) (o : Option Register)
 words_stay before index value keep None k ne = refl
 words_stay before index value keep (Some q) k ne = get_or-set_other before.words index k _ 0 ne
 
-shape_stays : (before : Registers) (index value keep : ℕ) (o : Option Register) → (write_at before index value keep o).shape ≡ before.shape
-shape_stays before index value keep None = refl
-shape_stays before index value keep (Some q) = refl
-
 pub leaves_view : (r : Registers) (i index s : ℕ) → IsValidShape r.shape → IsEntryPart i index → is_own r s i ≡ false → is_own r s (i + 1) ≡ false → LeavesView r index s
 leaves_view r i index s valid part here next before value keep e =
     let o : Option Register = register_at before.shape index in
     let same : SameBut index r.words before.words = λ k ne. ap (λ (q : Registers). get_or q.words k 0) e ∙ words_stay before index value keep o k ne in
-    let shape : r.shape ≡ before.shape = ap (λ (q : Registers). q.shape) e ∙ shape_stays before index value keep o in
+    let shape : r.shape ≡ before.shape = ap (λ (q : Registers). q.shape) e ∙ written_shape before index value keep o in
     let stays = view_stays r.shape r.words before.words i index s valid part same here next in
     sym (stays ∙ ap (λ h. view_of (record { shape = h; words = before.words }) s) shape)
 
