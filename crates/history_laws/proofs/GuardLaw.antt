@@ -148,27 +148,27 @@ number_bit_of w i l =
     or_right (leb 0 (suc i) && ltb (suc i) (0 + 1)) _ (or_left (leb 1 (suc i) && ltb (suc i) (1 + w)) false
     (and_from (leb 1 (suc i)) (ltb (suc i) (1 + w)) (le-leb 1 (suc i) (omega arith)) (lt-ltb (suc i) (1 + w) (omega arith))))
 
+-- A number from bit 1 on, behind a lock bit, doesn't fall: it stays where the lock bit is set, and else is the larger.
+number_write : (r : Registers) (value index w : ℕ)
+    → (has_bit (word_at r index) 0 ≡ true → (i : ℕ) → i < w → bit_at (word_at (written r index value (guarded_bits r index)) index) (suc i) ≡ bit_at (word_at r index) (suc i))
+    → (has_bit (word_at r index) 0 ≡ false → guarded_bits r index ≡ 0) → bits_of 1 w (word_at r index) ≤ bits_of 1 w (word_at (written r index value 0) index)
+    → bits_of 1 w (word_at r index) ≤ bits_of 1 w (word_at (written r index value (guarded_bits r index)) index)
+number_write r value index w kept free grown = ⊎_elim
+    (λ (locked : has_bit (word_at r index) 0 ≡ true). same_le _ _ (same_bits w (word_at (written r index value (guarded_bits r index)) index) (word_at r index) (kept locked)))
+    (λ (unlocked : has_bit (word_at r index) 0 ≡ false). subst (λ keep. bits_of 1 w (word_at r index) ≤ bits_of 1 w (word_at (written r index value keep) index)) (sym (free unlocked)) grown)
+    (cases_Bool (has_bit (word_at r index) 0))
+
 domains_write : (r : Registers) (value : ℕ) → bits_of 1 7 (word_at r 18) ≤ bits_of 1 7 (word_at (written r 18 value (guarded_bits r 18)) 18)
-domains_write r value = ⊎_elim
-    (λ (locked : has_bit (word_at r 18) 0 ≡ true).
-    same_le _ _ (same_bits 7 (word_at (written r 18 value (guarded_bits r 18)) 18) (word_at r 18) (λ i l.
-    same_kept r 18 value (suc i) (omega arith) (guarded_by (Some Mdcfglck) r Mdcfglck (suc i) refl (and_from (has_bit (word_at r 18) 0) _ locked (number_bit_of 7 i l))))))
-    (λ (free : has_bit (word_at r 18) 0 ≡ false).
-    let none : guarded_bits r 18 ≡ 0 = ap (λ b. number_of_bits (λ i. b && is_field_bit r.shape Mdcfglck i)) free in
-    subst (λ keep. bits_of 1 7 (word_at r 18) ≤ bits_of 1 7 (word_at (written r 18 value keep) 18)) (sym none)
-    (stored_else (λ n. bits_of 1 7 (word_at r 18) ≤ bits_of 1 7 n) r.words 18 _ (domains_grown (word_at r 18) _ value (lock_small (word_at r 18) value)) (omega arith)))
-    (cases_Bool (has_bit (word_at r 18) 0))
+domains_write r value = number_write r value 18 7
+    (λ locked i l. same_kept r 18 value (suc i) (omega arith) (guarded_by (Some Mdcfglck) r Mdcfglck (suc i) refl (and_from (has_bit (word_at r 18) 0) _ locked (number_bit_of 7 i l))))
+    (λ free. ap (λ b. number_of_bits (λ i. b && is_field_bit r.shape Mdcfglck i)) free)
+    (stored_else (λ n. bits_of 1 7 (word_at r 18) ≤ bits_of 1 7 n) r.words 18 _ (domains_grown (word_at r 18) _ value (lock_small (word_at r 18) value)) (omega arith))
 
 entries_write : (r : Registers) (value : ℕ) → bits_of 1 16 (word_at r 19) ≤ bits_of 1 16 (word_at (written r 19 value (guarded_bits r 19)) 19)
-entries_write r value = ⊎_elim
-    (λ (locked : has_bit (word_at r 19) 0 ≡ true).
-    same_le _ _ (same_bits 16 (word_at (written r 19 value (guarded_bits r 19)) 19) (word_at r 19) (λ i l.
-    same_kept r 19 value (suc i) (omega arith) (guarded_by (Some Entrylck) r Entrylck (suc i) refl (and_from (has_bit (word_at r 19) 0) _ locked (number_bit_of 16 i l))))))
-    (λ (free : has_bit (word_at r 19) 0 ≡ false).
-    let none : guarded_bits r 19 ≡ 0 = ap (λ b. number_of_bits (λ i. b && is_field_bit r.shape Entrylck i)) free in
-    subst (λ keep. bits_of 1 16 (word_at r 19) ≤ bits_of 1 16 (word_at (written r 19 value keep) 19)) (sym none)
-    (stored_else (λ n. bits_of 1 16 (word_at r 19) ≤ bits_of 1 16 n) r.words 19 _ (entries_grown (word_at r 19) _ value (lock_small (word_at r 19) value)) (omega arith)))
-    (cases_Bool (has_bit (word_at r 19) 0))
+entries_write r value = number_write r value 19 16
+    (λ locked i l. same_kept r 19 value (suc i) (omega arith) (guarded_by (Some Entrylck) r Entrylck (suc i) refl (and_from (has_bit (word_at r 19) 0) _ locked (number_bit_of 16 i l))))
+    (λ free. ap (λ b. number_of_bits (λ i. b && is_field_bit r.shape Entrylck i)) free)
+    (stored_else (λ n. bits_of 1 16 (word_at r 19) ≤ bits_of 1 16 n) r.words 19 _ (entries_grown (word_at r 19) _ value (lock_small (word_at r 19) value)) (omega arith))
 
 other_le : (w : ℕ) (r : Registers) (index value j : ℕ) → (j ≡ index → ⊥) → bits_of 1 w (word_at r j) ≤ bits_of 1 w (word_at (written r index value (guarded_bits r index)) j)
 other_le w r index value j ne = same_le _ _ (ap (bits_of 1 w) (other_stays r index value (guarded_bits r index) j (register_at r.shape index) ne))
