@@ -43,6 +43,13 @@ pub record PlaysCommands (p : PortView) (all : List Command) (q : PortView) (end
   pub record_is : end_of_commands p.number all [] made ≡ Some how
   pub ended_so : ended ≡ end_of how
 
+-- The caller made a whole record of the section.
+pub record PlaysSection (section : SectionOf) (p q : PortView) : Type 0 where
+  pub made : List LoggedEvent
+  pub adds : MakesEvents p made q
+  pub how : SectionEnd
+  pub record_is : section_end p.number section made ≡ Some how
+
 -- The lane ran: its caller made a whole record of its section, and the lane ended as the record does.
 pub record Runs (l m : LaneView) : Type 0 where
   pub made : List LoggedEvent

@@ -4,7 +4,7 @@ ghost use Rattle.std.specs.List.{AllByRecursion};
 ghost use Rattle.event_words.specs.Sections.{AreValidCommands, NamesUnits, most_events, is_submit};
 ghost use Rattle.shared_log.specs.Callers.{Belongs};
 ghost use Rattle.checker_workers.specs.Ports.{unit_count};
-ghost use Rattle.checker_workers.specs.Lanes.{MayPlay, PlaysCommands, Runs};
+ghost use Rattle.checker_workers.specs.Lanes.{MayPlay, PlaysCommands, PlaysSection, Runs};
 ghost use Rattle.checker_workers.specs.declared.lane.LaneEnd.TheVariants as ends;
 
 use crate::gate::Gate;
@@ -97,6 +97,31 @@ impl Lane {
         let Lane { port, .. } = self;
         port
     }
+}
+
+/// Plays a section by a port's caller, without a lane that keeps the section. The section must be valid,
+/// name only units of the port and have no more events than are left to its caller, which belongs to the
+/// log. The caller makes a whole record of the section. The memory for its tickets is taken before the first
+/// event. The gate is called as `Gate` says.
+pub fn play_section<G: Gate>(
+    alloc: Global,
+    section: &Section,
+    port: Port,
+    shared: &Shared,
+    gate: &G,
+) -> Result<Port, NoMemory>
+    requires may { MayPlay section.now port }
+    requires belongs { Belongs port shared.now }
+    ensures { IfOk result (λ played. PlaysSection section.now port played) }
+{
+    let slots = section.slots as usize;
+    let Ok(mut table) = Vec::with_capacity(alloc, slots) else {
+        return Err(NoMemory);
+    };
+    let mut port = port;
+    let commands = commands_of(section);
+    play_commands(&mut port, &mut table, commands, shared, gate);
+    Ok(port)
 }
 
 fn commands_of(section: &Section) -> &[Command]

@@ -13,6 +13,6 @@ mod ticket;
 
 pub use beside::run_lanes;
 pub use gate::{FreeGate, Gate};
-pub use lane::{Lane, LaneEnd, NoMemory};
+pub use lane::{Lane, LaneEnd, NoMemory, play_section};
 pub use port::Port;
 pub use ticket::{Judged, Submitted, Ticket};

@@ -15,9 +15,9 @@ pub mod reported;
 
 use crate::memory::NoMemory;
 use budgets::budget;
-use checker_workers::{Gate, Lane, Port, run_lanes};
+use checker_workers::{Gate, Lane, Port, play_section, run_lanes};
 use event_words::Section;
-use players::{Player, copy_section, make_players};
+use players::{Player, make_players};
 use script_reader::Script;
 use shared_log::{Caller, History, Shared, close, split};
 use std::alloc::{AllocError, Global};
@@ -29,19 +29,18 @@ fn play_boot<G: Gate>(
     alloc: Global,
     shared: &Shared,
     first: Caller<Fabric>,
-    section: Section,
+    section: &Section,
     gate: &G,
 ) -> Result<Caller<Fabric>, NoMemory>
     requires first { IsFirstCaller shared.now first }
     requires none { first.log ≡ [] }
-    requires may { MayPlay section first }
+    requires may { MayPlay section.now first }
     ensures first { IfOk result (λ caller.
         IsFirstCaller shared.now caller × (caller.first ≡ first.first)) }
-    ensures played { IfOk result (λ caller. HasPlayed first.first 0 section caller) }
+    ensures played { IfOk result (λ caller. HasPlayed first.first 0 section.now caller) }
 {
-    let mut lane = Lane::new(alloc, section, Port::new(first))?;
-    lane.run(shared, gate);
-    Ok(lane.into_port().into_caller())
+    let port = play_section(alloc, section, Port::new(first), shared, gate)?;
+    Ok(port.into_caller())
 }
 
 /// One lane more, with a caller of its own.
@@ -141,11 +140,10 @@ fn play_sections<R: Threads + Sync, G: Gate + Sync>(
     let lanes = script.lanes.len();
     let callers = lanes as u8 + 1;
     let places = callers as u32 * budget;
-    let boot = copy_section(alloc, &script.boot)?;
     let players = make_players(alloc, &script.shapes, places, &script.lanes)?;
     let units = Fabric::open(alloc, &script.shapes, places)?;
     let (shared, first) = Shared::open(alloc, callers, budget, units)?;
-    let mut first = play_boot(alloc, &shared, first, boot, gate)?;
+    let mut first = play_boot(alloc, &shared, first, &script.boot, gate)?;
     let _place = first.place();
     let lanes = split_lanes(alloc, &shared, &mut first, players)?;
     let rest = run_all(rt, alloc, &shared, lanes, gate)?;
@@ -159,9 +157,10 @@ fn play_sections<R: Threads + Sync, G: Gate + Sync>(
 /// there, and it needs at most 1048576 events. `Ok` gives a legal history of the script, which has no
 /// more events than the script needs.
 ///
-/// The memory of the log, of the replicas and of the sections' copies is taken before the first event,
-/// that of the lanes and of their tables of tickets after the boot section, and that of the list of
-/// callers, by which the log is closed, after the lanes ran. Whenever there is none, the history is lost.
+/// The memory of the log, of the replicas, of the lanes' sections, which are copied, and of the boot
+/// section's table of tickets is taken before the first event, that of the lanes and of their tables of
+/// tickets after the boot section, and that of the list of callers, by which the log is closed, after the
+/// lanes ran. Whenever there is none, the history is lost.
 #[tactic(auto, using(crate::proofs::HistoryLengths::legal_is_short))]
 pub fn play<R: Threads + Sync, G: Gate + Sync>(
     rt: &R,

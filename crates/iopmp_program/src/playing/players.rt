@@ -17,7 +17,7 @@ pub struct Player {
 }
 
 /// The same section again.
-pub fn copy_section(alloc: Global, section: &Section) -> Result<Section, AllocError>
+fn copy_section(alloc: Global, section: &Section) -> Result<Section, AllocError>
     ensures { IfOk result (λ copy. copy ≡ section.now) }
 {
     let Section { commands, slots } = section;
