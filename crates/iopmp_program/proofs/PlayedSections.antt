@@ -241,6 +241,14 @@ shared_need script count need c n =
     let some : 0 < length script.lanes + 1 = omega arith in
     ap (λ k. need / (k + 1)) c ∙ ap (λ v. v / (length script.lanes + 1)) n ∙ mul-div_cancel_left most some
 
+-- and no section has more
+pub budgeted : (script : ScriptOf) (count need : ℕ) → count ≡ length script.lanes → need ≡ need_of script
+    → (1 ≤ need / (count + 1)) × (most_section_events script.boot ≤ need / (count + 1)) × AllByRecursion (HasAtMost (need / (count + 1))) script.lanes
+budgeted script count need c n =
+    let e = shared_need script count need c n in
+    let h = at_least (max 1 (most_section_events script.boot)) script.lanes in
+    (omega arith, omega arith, subst (λ most. AllByRecursion (HasAtMost most) script.lanes) (sym e) (each_within (max 1 (most_section_events script.boot)) script.lanes))
+
 -- ---- from the opening to the end
 
 pub may_play : (section boot : SectionOf) (p : PortView) (n budget : ℕ) → boot ≡ section → length p.first.units ≡ n → p.left ≡ budget → MayBePlayed n budget section → MayPlay boot p

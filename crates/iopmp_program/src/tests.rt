@@ -25,10 +25,24 @@ mod summaries;
 use crate::{Outcome, Status, top};
 use checker_workers::{FreeGate, Gate};
 use edge_io::{MemorySink, MemorySource};
+use event_words::Shape;
 use std::alloc::Global;
 use std::process::Abort;
 use std::test::Fail;
 use std::thread::Threads;
+
+/// A unit of few requesters and domains.
+pub const SMALL_UNIT: Shape = Shape {
+    rrids: 4,
+    domains: 3,
+    entries: 8,
+    mdcfg: 0,
+    k: 0,
+    srcmd: 0,
+    sps: false,
+    queue: 1,
+    transl: None,
+};
 
 /// Which call of a stream fails, if one does, and how many bytes a call moves.
 #[derive(Clone, Copy)]

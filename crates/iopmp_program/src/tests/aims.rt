@@ -1,19 +1,8 @@
 // Callers' aims, on a unit alone.
 use crate::reports::replay::replay_words;
-use event_words::{Denial, Event, Kind, Reply, Shape, Verdict, pack};
+use crate::tests::SMALL_UNIT;
+use event_words::{Denial, Event, Kind, Reply, Verdict, pack};
 use std::test::Fail;
-
-const SHAPE: Shape = Shape {
-    rrids: 4,
-    domains: 3,
-    entries: 8,
-    mdcfg: 0,
-    k: 0,
-    srcmd: 0,
-    sps: false,
-    queue: 1,
-    transl: None,
-};
 
 /// A write by caller 0.
 fn write(index: u32, value: u32) -> Event {
@@ -73,7 +62,7 @@ fn each_caller_aims_by_itself(rt: HostRuntime) -> Result<(), Fail> {
         words.push(pack(event))?;
     }
     assert!(rt; words.len() <= 1048576);
-    let Ok(replay) = replay_words(rt.alloc(), &[SHAPE], &words) else {
+    let Ok(replay) = replay_words(rt.alloc(), &[SMALL_UNIT], &words) else {
         return Err(Fail::new("no memory"));
     };
     assert_eq!(rt; replay.events.len(), cases.len());
