@@ -191,29 +191,23 @@ plain_high_permission h m v good f p small =
     let some = good.valid.entries in
     plain_below h (1025 + 8 * m) v (2 ^ (2 * (h.rrids - 16))) (λ w l. high_permission_alone h m w good f p l) small (omega arith) (omega arith) (λ g s l e. omega arith)
 
-addr_alone : (h : Shape) (i v : ℕ) → i < h.entries → v < 2 ^ 32 → (r : Registers) → IsUnlocked h r → guarded_write r (pair (2048 + 4 * i) v) ≡ set_word r (2048 + 4 * i) v
-addr_alone h i v p small r c =
-    let n : r.shape.entries ≡ h.entries = ap (λ (x : Shape). x.entries) c.shape in
-    plain_write r (EntryAddr i) (2048 + 4 * i) v (register_at-EntryAddr r.shape i (omega arith)) (λ k. refl) (entry_unlocked r i (EntryAddr i) c.entrylck) (omega arith) small
-
 pub plain_addr : (h : Shape) (i v : ℕ) → i < h.entries → v < 2 ^ 32 → IsPlain h (pair (2048 + 4 * i) v)
-plain_addr h i v p small = plain_below h (2048 + 4 * i) v (2 ^ 32) (λ w l. addr_alone h i w p l) small (omega arith) (omega arith) (λ f s l e. omega arith)
-
-addrh_alone : (h : Shape) (i v : ℕ) → i < h.entries → v < 2 ^ 18 → (r : Registers) → IsUnlocked h r → guarded_write r (pair (2049 + 4 * i) v) ≡ set_word r (2049 + 4 * i) v
-addrh_alone h i v p small r c =
-    let n : r.shape.entries ≡ h.entries = ap (λ (x : Shape). x.entries) c.shape in
-    plain_write r (EntryAddrh i) (2049 + 4 * i) v (register_at-EntryAddrh r.shape i (omega arith)) (λ k. refl) (entry_unlocked r i (EntryAddrh i) c.entrylck) (omega arith) (omega arith)
+plain_addr h i v p small =
+    plain_below h (2048 + 4 * i) v (2 ^ 32)
+    (λ w below r c. let n : r.shape.entries ≡ h.entries = ap (λ (x : Shape). x.entries) c.shape in plain_write r (EntryAddr i) (2048 + 4 * i) w (register_at-EntryAddr r.shape i (omega arith)) (λ k. refl) (entry_unlocked r i (EntryAddr i) c.entrylck) (omega arith) (omega arith))
+    small (omega arith) (omega arith) (λ f s l e. omega arith)
 
 pub plain_addrh : (h : Shape) (i v : ℕ) → i < h.entries → v < 2 ^ 18 → IsPlain h (pair (2049 + 4 * i) v)
-plain_addrh h i v p small = plain_below h (2049 + 4 * i) v (2 ^ 18) (λ w l. addrh_alone h i w p l) small (omega arith) (omega arith) (λ f s l e. omega arith)
-
-cfg_alone : (h : Shape) (i v : ℕ) → i < h.entries → v < 2 ^ 5 → (r : Registers) → IsUnlocked h r → guarded_write r (pair (2050 + 4 * i) v) ≡ set_word r (2050 + 4 * i) v
-cfg_alone h i v p small r c =
-    let n : r.shape.entries ≡ h.entries = ap (λ (x : Shape). x.entries) c.shape in
-    plain_write r (EntryCfg i) (2050 + 4 * i) v (register_at-EntryCfg r.shape i (omega arith)) (λ k. refl) (entry_unlocked r i (EntryCfg i) c.entrylck) (omega arith) (omega arith)
+plain_addrh h i v p small =
+    plain_below h (2049 + 4 * i) v (2 ^ 18)
+    (λ w below r c. let n : r.shape.entries ≡ h.entries = ap (λ (x : Shape). x.entries) c.shape in plain_write r (EntryAddrh i) (2049 + 4 * i) w (register_at-EntryAddrh r.shape i (omega arith)) (λ k. refl) (entry_unlocked r i (EntryAddrh i) c.entrylck) (omega arith) (omega arith))
+    small (omega arith) (omega arith) (λ f s l e. omega arith)
 
 pub plain_cfg : (h : Shape) (i v : ℕ) → i < h.entries → v < 2 ^ 5 → IsPlain h (pair (2050 + 4 * i) v)
-plain_cfg h i v p small = plain_below h (2050 + 4 * i) v (2 ^ 5) (λ w l. cfg_alone h i w p l) small (omega arith) (omega arith) (λ f s l e. omega arith)
+plain_cfg h i v p small =
+    plain_below h (2050 + 4 * i) v (2 ^ 5)
+    (λ w below r c. let n : r.shape.entries ≡ h.entries = ap (λ (x : Shape). x.entries) c.shape in plain_write r (EntryCfg i) (2050 + 4 * i) w (register_at-EntryCfg r.shape i (omega arith)) (λ k. refl) (entry_unlocked r i (EntryCfg i) c.entrylck) (omega arith) (omega arith))
+    small (omega arith) (omega arith) (λ f s l e. omega arith)
 
 -- ---- lists of writes
 

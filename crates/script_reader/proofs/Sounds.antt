@@ -77,9 +77,9 @@ sound_start s e = subst IsSound (sym e) (record {
   place = record { boot = refl; lanes = refl; section = refl };
 })
 
--- another place, whose lines may come
-pub sound_placed : (s : State) (next : ScriptPart) → FitsPlace next (record s { place = next }) → IsSound s → IsSound (record s { place = next })
-sound_placed s next fits sound = record {
+-- another place, whose lines may come, and another open section
+pub sound_moved : (s : State) (next : ScriptPart) (new : OpenSection) → IsSoundSection (length s.shapes) new → FitsPlace next (record s { place = next; section = new }) → IsSound s → IsSound (record s { place = next; section = new })
+sound_moved s next new section fits sound = record {
   few_shapes = sound.few_shapes;
   shapes = sound.shapes;
   boot = sound.boot;
@@ -88,9 +88,12 @@ sound_placed s next fits sound = record {
   lanes = sound.lanes;
   lanes_units = sound.lanes_units;
   lanes_whole = sound.lanes_whole;
-  section = sound.section;
+  section = section;
   place = fits;
 }
+
+pub sound_placed : (s : State) (next : ScriptPart) → FitsPlace next (record s { place = next }) → IsSound s → IsSound (record s { place = next })
+sound_placed s next fits sound = sound_moved s next s.section sound.section fits sound
 
 pub sound_head : (s : State) → s.place ≡ Head → IsSound s → IsSound (record s { place = Units })
 sound_head s e sound =
@@ -136,18 +139,7 @@ fits_section Boot s new i fits = record { some_units = fits.some_units; few_lane
 fits_section Lane s new i fits = record { some_units = fits.some_units; few_lanes = fits.few_lanes }
 
 pub sound_section : (s : State) (new : OpenSection) → IsInSection s.place → IsSoundSection (length s.shapes) new → IsSound s → IsSound (record s { section = new })
-sound_section s new i section sound = record {
-  few_shapes = sound.few_shapes;
-  shapes = sound.shapes;
-  boot = sound.boot;
-  boot_units = sound.boot_units;
-  boot_whole = sound.boot_whole;
-  lanes = sound.lanes;
-  lanes_units = sound.lanes_units;
-  lanes_whole = sound.lanes_whole;
-  section = section;
-  place = fits_section s.place s new i sound.place;
-}
+sound_section s new i section sound = sound_moved s s.place new section (fits_section s.place s new i sound.place) sound
 
 -- a section that is whole
 pub whole_section : (units : ℕ) (open_section : OpenSection) → IsSoundSection units open_section → length open_section.commands ≤ 4194304 → IsValidSection (section_of open_section)
