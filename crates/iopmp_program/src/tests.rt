@@ -17,6 +17,7 @@ mod limits;
 mod live_updates;
 mod meeting;
 mod narrow_updates;
+mod plain_rules;
 mod plans;
 mod rows;
 mod statuses;
