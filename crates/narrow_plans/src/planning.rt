@@ -12,7 +12,7 @@ ghost use Rattle.narrow_plans.specs.NarrowPlans.{stall_command, narrow_commands}
 ghost use Rattle.narrow_plans.specs.Stalls.{stalls};
 
 use crate::states::keeps_view;
-use event_words::{Command, Register, Section};
+use event_words::{Command, Register};
 use policy_compiler::{Image, Policy, RegPair};
 use std::alloc::{AllocError, Global};
 use update_planner::{Plan, PlanError, image, plan_refusal, rewrite, rewrites};
@@ -85,15 +85,11 @@ fn fitting_plan(alloc: Global, old: &Policy, new: &Policy, polls: u32) -> Result
     let old = image(alloc, old)?;
     let new = image(alloc, new)?;
     let commands = commands(alloc, &old, &new, polls)?;
-    Ok(Plan {
-        section: Section { commands, slots: 0 },
-    })
+    Ok(Plan::of(commands))
 }
 
-/// The narrow plan that takes unit 0 from the old policy to the new one, with at most `polls` readings, 1
-/// to 4096, of its stall register. Both policies must be ones that `read_policy` can give.
-///
-/// Fails where [`update_planner::plan`] fails, with the same error.
+/// The narrow plan from the old policy to the new one, with the conditions of [`update_planner::plan`]. It fails where
+/// that fails, with the same error.
 pub fn narrow(alloc: Global, old: &Policy, new: &Policy, polls: u32) -> Result<Plan, PlanError>
     requires polls { IsMax polls }
     requires old { IsPolicy old.now }

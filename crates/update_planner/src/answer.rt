@@ -1,8 +1,9 @@
 // Plans, and why there is none.
 ghost use Rattle.std.specs.Prelude.{◌≡◌};
 ghost use Rattle.update_planner.specs.declared.answer.PlanError.TheVariants.{NoMemory};
+ghost use Rattle.update_planner.specs.Gives.{section_with};
 
-use event_words::Section;
+use event_words::{Command, Section};
 use policy_compiler::CompileError;
 use std::alloc::AllocError;
 
@@ -10,6 +11,17 @@ use std::alloc::AllocError;
 #[derive(Debug, Drop)]
 pub struct Plan {
     pub section: Section,
+}
+
+impl Plan {
+    /// The plan of these commands, none of which submits.
+    pub fn of(commands: Vec<Command>) -> Plan
+        ensures { result.section ≡ section_with commands.items }
+    {
+        Plan {
+            section: Section { commands, slots: 0 },
+        }
+    }
 }
 
 /// Why there is no plan.

@@ -10,7 +10,6 @@ ghost use Rattle.update_planner.specs.Gives.{IsPlan, Plans, SaysShapesDiffer};
 
 use crate::refusal::plan_refusal;
 use crate::{Plan, PlanError, commands};
-use event_words::Section;
 use policy_compiler::{Image, Policy, compile};
 use std::alloc::Global;
 
@@ -40,9 +39,7 @@ fn fitting_plan(alloc: Global, old: &Policy, new: &Policy, polls: u32) -> Result
     let old = image(alloc, old)?;
     let new = image(alloc, new)?;
     let commands = commands::commands(alloc, &old, &new, polls)?;
-    Ok(Plan {
-        section: Section { commands, slots: 0 },
-    })
+    Ok(Plan::of(commands))
 }
 
 /// The plan that takes unit 0 from the old policy to the new one, with at most `polls` readings, 1

@@ -1,4 +1,4 @@
-use Rattle.std.proofs.Common.{refl, sym, subst}
+use Rattle.std.proofs.Common.{refl, sym, ap, subst, ◌∙◌}
 use Rattle.event_words.specs.Sections.{IsValidSection}
 use Rattle.update_planner.specs.Gives.{section_with}
 use Rattle.update_planner.proofs.Images.{unit_writes, valid_between}
@@ -12,4 +12,4 @@ commands-requires-clause-new c = unit_writes c.args.new.now c.args.new.now _ _ c
 
 pub returns-clause-valid : goal.returns-clause-valid
 returns-clause-valid c =
-    subst (λ cs. IsValidSection (section_with cs)) (sym c.in_ok-commands.ensures) (valid_between c.args.new.now _ _ c.args.polls c.in_ok-new.ensures c.requires.new c.requires.new_fits c.requires.polls)
+    subst IsValidSection (sym (c.of.ensures ∙ ap section_with c.in_ok-commands.ensures)) (valid_between c.args.new.now _ _ c.args.polls c.in_ok-new.ensures c.requires.new c.requires.new_fits c.requires.polls)
