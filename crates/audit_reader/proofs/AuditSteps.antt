@@ -2,14 +2,12 @@
 use Rattle.std.proofs.Common.{◌≡◌, ℕ, zero, suc, ◌<◌, ◌≤◌, ◌++◌, List, [], ◌∷◌, Option, Some, None, length, get_or, set, refl, sym, ap, subst, ◌∙◌, arith, append_assoc, inl, inr, zero-add}
 use Rattle.std.specs.Prelude.{IsSome, Any}
 use Rattle.std.specs.List.{concat}
-use Rattle.event_words.specs.declared.access.Kind.TheVariants as kinds
 use Rattle.event_words.specs.declared.event.Event.{Event}
 use Rattle.event_words.specs.declared.record.LoggedEvent.{LoggedEvent}
 use Rattle.event_words.specs.declared.reply.Reply.{Reply}
 use Rattle.event_words.specs.Events.{caller_of}
 use Rattle.event_words.specs.Valid.{IsValidEvent}
 use Rattle.event_words.specs.Word.{word_of}
-use Rattle.event_words.specs.declared.event.Event.TheVariants as events
 use Rattle.event_words.specs.Runs.{caller_of_word, IsEventWord}
 use Rattle.event_words.specs.Records.{section_end}
 use Rattle.event_words.proofs.Runs.{caller_of_word-word_of, word_of-is_word}

@@ -12,7 +12,7 @@ use Rattle.event_words.specs.declared.reply.Verdict.{Verdict}
 use Rattle.event_words.specs.declared.record.LoggedEvent.{LoggedEvent}
 use Rattle.event_words.specs.Word.{word_of}
 use Rattle.event_words.specs.Events.{same_event}
-use Rattle.event_words.specs.Records.{judgements, polls, hits, is_verdict}
+use Rattle.event_words.specs.Records.{polls, hits, is_verdict}
 use Rattle.shared_log.specs.Callers.{SharedView, Belongs}
 use Rattle.cascade_path.proofs.Repeats.{judgements_left, judgements-held, judgements-last, some_judgements}
 use Rattle.checker_workers.specs.declared.ticket.Judged.TheVariants.{Done, Held}
