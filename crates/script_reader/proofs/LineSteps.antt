@@ -5,9 +5,10 @@ use Rattle.script_reader.specs.declared.step.StepError.{StepError}
 use Rattle.script_reader.specs.declared.step.StepError.TheVariants.{Code, NoMemory}
 use Rattle.script_reader.specs.declared.update_text.ExpectedPart.{ExpectedPart}
 use Rattle.script_reader.specs.Text.{lines_of}
+use Rattle.script_reader.specs.declared.reader.LinesOf.TheVariants.{Script, Lanes}
 use Rattle.script_reader.specs.Lines.{State, line_step}
 use Rattle.script_reader.specs.Scripts.{Bad, lines_from, at_line}
-use Rattle.script_reader.specs.LiveLanes.{lanes_line_step, lanes_from}
+use Rattle.script_reader.specs.LiveLanes.{lanes_from}
 use Rattle.script_reader.specs.UpdateTexts.{UpdateState, update_step, update_from}
 use Rattle.script_reader.specs.Answers.{refusal_of, Reads}
 use Rattle.script_reader.specs.Outcomes.{Fails}
@@ -19,18 +20,18 @@ refuses_at n NoMemory read next h = tt
 
 -- ---- scripts
 
-pub lines_ok : (s t : State) (n : ℕ) (line : List ℕ) (before after : List (List ℕ)) → before ≡ line ∷ after → line_step s line ≡ Ok t → lines_from s n before ≡ lines_from t (n + 1) after
+pub lines_ok : (s t : State) (n : ℕ) (line : List ℕ) (before after : List (List ℕ)) → before ≡ line ∷ after → line_step Script s line ≡ Ok t → lines_from s n before ≡ lines_from t (n + 1) after
 lines_ok s t n line before after first e = ap (lines_from s n) first ∙ ap (λ r. at_line n r (λ u. lines_from u (n + 1) after)) e
 
-pub lines_err : (s : State) (n : ℕ) (line : List ℕ) (before after : List (List ℕ)) (e : StepError) → before ≡ line ∷ after → Fails e (line_step s line) → Reads (Err (refusal_of n e)) (lines_from s n before)
+pub lines_err : (s : State) (n : ℕ) (line : List ℕ) (before after : List (List ℕ)) (e : StepError) → before ≡ line ∷ after → Fails e (line_step Script s line) → Reads (Err (refusal_of n e)) (lines_from s n before)
 lines_err s n line before after e first f = subst (Reads (Err (refusal_of n e))) (ap (lines_from s n) (sym first)) (refuses_at n e _ _ f)
 
 -- ---- lanes
 
-pub lanes_ok : (s t : State) (n : ℕ) (line : List ℕ) (before after : List (List ℕ)) → before ≡ line ∷ after → lanes_line_step s line ≡ Ok t → lanes_from s n before ≡ lanes_from t (n + 1) after
+pub lanes_ok : (s t : State) (n : ℕ) (line : List ℕ) (before after : List (List ℕ)) → before ≡ line ∷ after → line_step Lanes s line ≡ Ok t → lanes_from s n before ≡ lanes_from t (n + 1) after
 lanes_ok s t n line before after first e = ap (lanes_from s n) first ∙ ap (λ r. at_line n r (λ u. lanes_from u (n + 1) after)) e
 
-pub lanes_err : (s : State) (n : ℕ) (line : List ℕ) (before after : List (List ℕ)) (e : StepError) → before ≡ line ∷ after → Fails e (lanes_line_step s line) → Reads (Err (refusal_of n e)) (lanes_from s n before)
+pub lanes_err : (s : State) (n : ℕ) (line : List ℕ) (before after : List (List ℕ)) (e : StepError) → before ≡ line ∷ after → Fails e (line_step Lanes s line) → Reads (Err (refusal_of n e)) (lanes_from s n before)
 lanes_err s n line before after e first f = subst (Reads (Err (refusal_of n e))) (ap (lanes_from s n) (sym first)) (refuses_at n e _ _ f)
 
 -- ---- the input of an update

@@ -5,6 +5,7 @@ use Rattle.std.specs.List.{list_all, AllByRecursion}
 use Rattle.script_reader.specs.Codes.{not_plain}
 use Rattle.script_reader.specs.Text.{is_line_feed, is_blank, is_plain, lines_of, words_of}
 use Rattle.script_reader.specs.Words.{word_at}
+use Rattle.script_reader.specs.declared.reader.LinesOf.TheVariants.{Script}
 use Rattle.script_reader.specs.Lines.{State, is_skipped, place_step, words_step, line_step}
 use Rattle.script_reader.specs.Scripts.{at_line, lines_from}
 use Rattle.script_reader.proofs.Parts.{and_left, and_right, lines_of_line, words_of_word, words_of_last}
@@ -65,7 +66,7 @@ words_of_joined (w ∷ (v ∷ ws)) words =
 lines_of_ended : (ws : List (List ℕ)) (rest : List ℕ) → AreWords ws → lines_of (ended ws rest) ≡ joined ws ∷ lines_of rest
 lines_of_ended ws rest words = ap lines_of (ended_is ws rest) ∙ lines_of_line (joined ws) rest (every_joined (λ b. not (is_line_feed b)) ws solid_stays refl words)
 
-line_read : (s : State) (ws : List (List ℕ)) → AreWords ws → line_step s (joined ws) ≡ words_step s ws
+line_read : (s : State) (ws : List (List ℕ)) → AreWords ws → line_step Script s (joined ws) ≡ words_step s ws
 unfolding line_step
 line_read s ws words =
     ap (λ b. if b then words_step s (words_of (joined ws)) else Err not_plain) (every_joined is_plain ws solid_plain refl words) ∙ ap (words_step s) (words_of_joined ws words)

@@ -12,8 +12,9 @@ use Rattle.script_reader.specs.Numbers.{number_at}
 use Rattle.script_reader.specs.Words.{word_at, is_word_at}
 use Rattle.script_reader.specs.Names.{slot_at, with_name}
 use Rattle.script_reader.specs.Commands.{unit_at, index_at, value_at, max_at, access_at, stages_at, write_at, read_at, submit_at, judge_at, settle_at, until_at, through_at, command_at}
-use Rattle.script_reader.specs.Lines.{State, OpenSection, is_skipped, is_other, next_lane, closed, with_submission, end_step, lane_step, submit_step, command_step, section_step, place_step}
-use Rattle.script_reader.specs.LiveLanes.{IsOpen, IsLiveState, lanes_start, lanes_words_step, lanes_line_step}
+use Rattle.script_reader.specs.declared.reader.LinesOf.TheVariants.{Lanes}
+use Rattle.script_reader.specs.Lines.{State, OpenSection, is_skipped, is_other, next_lane, closed, with_submission, end_step, lane_step, submit_step, command_step, section_step, place_step, lanes_words_step, line_step}
+use Rattle.script_reader.specs.LiveLanes.{IsOpen, IsLiveState, lanes_start}
 use Rattle.script_reader.proofs.Sounds.{all_push}
 
 -- ---- checks one after another
@@ -136,11 +137,11 @@ unfolding lanes_words_step
 words_keep s words live = chosen IsLiveState (is_skipped words) _ _ live
     (standing (is_word_at words 0 (codes "w")) (nat_lt 0 (length s.lanes) || (is_word_at words 0 (codes "lane") || is_word_at words 0 (codes "end"))) _ _ (λ other. place_keeps s.place s words live.place other live) tt)
 
-pub line_keeps : (s : State) (line : List ℕ) → IsLiveState s → IfOk (lanes_line_step s line) IsLiveState
-unfolding lanes_line_step
+pub line_keeps : (s : State) (line : List ℕ) → IsLiveState s → IfOk (line_step Lanes s line) IsLiveState
+unfolding line_step
 line_keeps s line live = chosen IsLiveState (list_all is_plain line) _ _ (words_keep s (words_of line) live) tt
 
-pub line_kept : (s t : State) (line : List ℕ) → IsLiveState s → lanes_line_step s line ≡ Ok t → IsLiveState t
+pub line_kept : (s t : State) (line : List ℕ) → IsLiveState s → line_step Lanes s line ≡ Ok t → IsLiveState t
 line_kept s t line live e = subst (λ r. IfOk r IsLiveState) e (line_keeps s line live)
 
 pub live_start : (s : State) → s ≡ lanes_start → IsLiveState s

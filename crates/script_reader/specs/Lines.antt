@@ -6,6 +6,8 @@ use Rattle.event_words.specs.declared.shape.Shape.{Shape}
 use Rattle.event_words.specs.declared.section.Command.{Command}
 use Rattle.event_words.specs.Sections.{SectionOf}
 use Rattle.script_reader.specs.declared.reader.ScriptPart.{ScriptPart}
+use Rattle.script_reader.specs.declared.reader.LinesOf.{LinesOf}
+use Rattle.script_reader.specs.declared.reader.LinesOf.TheVariants.{Script, Lanes}
 use Rattle.script_reader.specs.declared.reader.ScriptPart.TheVariants.{Head, Units, Boot, Lane, Finished}
 use Rattle.script_reader.specs.Codes.{◌>>=◌, not_plain, no_head, misplaced, misshapen, out_of_range}
 use Rattle.script_reader.specs.Text.{is_plain, words_of}
@@ -121,8 +123,27 @@ is_skipped words = length words == 0 || slice_index (word_at words 0) 0 == 35
 unfoldable pub words_step : State → List (List ℕ) → Result State ℕ
 words_step s words = if is_skipped words then Ok s else place_step s.place s words
 
-unfoldable pub line_step : State → List ℕ → Result State ℕ
-line_step s line = if list_all is_plain line then words_step s (words_of line) else Err not_plain
+-- ---- a line among the lanes of a live update
+
+-- no register is written, and nothing is added to lane 1
+abbrev pub may_stand : State → List (List ℕ) → Bool
+may_stand s words =
+    not (is_word_at words 0 (codes "w"))
+    && (nat_lt 0 (length s.lanes) || (is_word_at words 0 (codes "lane") || is_word_at words 0 (codes "end")))
+
+unfoldable pub lanes_words_step : State → List (List ℕ) → Result State ℕ
+lanes_words_step s words =
+    if is_skipped words then Ok s
+    else (if may_stand s words then place_step s.place s words else Err misplaced)
+
+-- ---- either
+
+abbrev pub words_step_of : LinesOf → State → List (List ℕ) → Result State ℕ
+words_step_of Script s words = words_step s words
+words_step_of Lanes s words = lanes_words_step s words
+
+unfoldable pub line_step : LinesOf → State → List ℕ → Result State ℕ
+line_step of s line = if list_all is_plain line then words_step_of of s (words_of line) else Err not_plain
 
 -- ---- before the first line
 

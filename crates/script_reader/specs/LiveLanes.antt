@@ -2,19 +2,19 @@
 --
 -- They are written as a script's lanes are, from number 2 on, and end with `end`. Lane 1 is the plan, which alone
 -- writes registers. There is one unit.
-use Rattle.std.specs.Prelude.{ℕ, ◌+◌, ◌&&◌, ◌||◌, nat_lt, not, Bool, false, if◌then◌else◌, List, [], ◌∷◌, length, drop, codes, None, Ok, Err, Vec, ◌≡◌, ◌≤◌}
+use Rattle.std.specs.Prelude.{ℕ, ◌+◌, false, List, [], ◌∷◌, length, drop, None, Ok, Err, Vec, ◌≡◌, ◌≤◌}
 use Rattle.std.specs.Vec.{vec_items}
 use Rattle.std.specs.declared.alloc.Global.{Global}
 use Rattle.std.specs.declared.result.Result.{Result}
-use Rattle.std.specs.List.{list_all, AllByRecursion}
+use Rattle.std.specs.List.{AllByRecursion}
 use Rattle.event_words.specs.declared.shape.Shape.{Shape}
 use Rattle.event_words.specs.Sections.{SectionOf, IsValidSection, NamesOnlyUnits, IsNoRegisterWrite, HasNoRegisterWrites}
 use Rattle.script_reader.specs.declared.reader.ScriptPart.{ScriptPart}
+use Rattle.script_reader.specs.declared.reader.LinesOf.TheVariants.{Lanes}
 use Rattle.script_reader.specs.declared.reader.ScriptPart.TheVariants.{Lane, Finished}
-use Rattle.script_reader.specs.Codes.{not_plain, misplaced}
-use Rattle.script_reader.specs.Text.{is_plain, lines_of, words_of}
-use Rattle.script_reader.specs.Words.{is_word_at}
-use Rattle.script_reader.specs.Lines.{State, new_section, no_commands, is_skipped, place_step}
+use Rattle.script_reader.specs.Codes.{misplaced}
+use Rattle.script_reader.specs.Text.{lines_of}
+use Rattle.script_reader.specs.Lines.{State, new_section, no_commands, line_step}
 use Rattle.script_reader.specs.Scripts.{Bad, at_line}
 use Rattle.script_reader.specs.declared.script.ScriptError.{ScriptError}
 use Rattle.script_reader.specs.Answers.{Reads}
@@ -27,20 +27,6 @@ one_unit = record { rrids = 1; domains = 1; entries = 1; mdcfg = 0; k = 0; srcmd
 abbrev pub lanes_start : State
 lanes_start = record { place = Lane; shapes = one_unit ∷ []; boot = no_commands; lanes = []; section = new_section }
 
--- no register is written, and nothing is added to lane 1
-abbrev pub may_stand : State → List (List ℕ) → Bool
-may_stand s words =
-    not (is_word_at words 0 (codes "w"))
-    && (nat_lt 0 (length s.lanes) || (is_word_at words 0 (codes "lane") || is_word_at words 0 (codes "end")))
-
-unfoldable pub lanes_words_step : State → List (List ℕ) → Result State ℕ
-lanes_words_step s words =
-    if is_skipped words then Ok s
-    else (if may_stand s words then place_step s.place s words else Err misplaced)
-
-unfoldable pub lanes_line_step : State → List ℕ → Result State ℕ
-lanes_line_step s line = if list_all is_plain line then lanes_words_step s (words_of line) else Err not_plain
-
 -- the lanes after lane 1, where `end` stood; `n` is the number of the last line plus 1
 abbrev pub lanes_end : ScriptPart → State → ℕ → Result (List SectionOf) Bad
 lanes_end Finished s n = Ok (drop 1 s.lanes)
@@ -49,7 +35,7 @@ lanes_end _ s n = Err (record { line = n; code = misplaced })
 -- the lines from number n on
 abbrev pub lanes_from : State → ℕ → List (List ℕ) → Result (List SectionOf) Bad
 lanes_from s n [] = lanes_end s.place s n
-lanes_from s n (line ∷ lines) = at_line n (lanes_line_step s line) (λ t. lanes_from t (n + 1) lines)
+lanes_from s n (line ∷ lines) = at_line n (line_step Lanes s line) (λ t. lanes_from t (n + 1) lines)
 
 -- The lanes of bytes whose first line has this number.
 abbrev pub lanes_at : ℕ → List ℕ → Result (List SectionOf) Bad

@@ -9,6 +9,7 @@ use Rattle.script_reader.specs.declared.reader.ScriptPart.{ScriptPart}
 use Rattle.script_reader.specs.declared.reader.ScriptPart.TheVariants.{Head, Finished}
 use Rattle.script_reader.specs.Codes.{no_head, misplaced}
 use Rattle.script_reader.specs.Text.{lines_of}
+use Rattle.script_reader.specs.declared.reader.LinesOf.TheVariants.{Script}
 use Rattle.script_reader.specs.Lines.{State, start, line_step}
 
 -- What contracts see of a script.
@@ -35,7 +36,7 @@ at_line n (Err code) next = Err (record { line = n; code = code })
 -- the lines from number n on
 abbrev pub lines_from : State → ℕ → List (List ℕ) → Result ScriptOf Bad
 lines_from s n [] = end_of s.place s n
-lines_from s n (line ∷ lines) = at_line n (line_step s line) (λ t. lines_from t (n + 1) lines)
+lines_from s n (line ∷ lines) = at_line n (line_step Script s line) (λ t. lines_from t (n + 1) lines)
 
 -- the script that bytes stand for, or the first bad line
 abbrev pub script_at : List ℕ → Result ScriptOf Bad

@@ -1,14 +1,14 @@
 // Reads the lanes of a live update.
-ghost use Rattle.std.specs.Prelude.{◌≡◌, ◌+◌, ◌≤◌, true, length, IfOk, OnOk};
+ghost use Rattle.std.specs.Prelude.{◌≡◌, ◌+◌, ◌≤◌, length, IfOk, OnOk};
 ghost use Rattle.script_reader.specs.LiveLanes.{IsLiveState, AreLiveLanes, ReadsLanes};
 ghost use Rattle.script_reader.specs.LiveLanes as spec;
-ghost use Rattle.script_reader.specs.Text.{IsPlainLine, words_of};
+ghost use Rattle.script_reader.specs.Lines as lines;
 ghost use Rattle.script_reader.specs.Sound.{IsSound};
 
-use crate::reader::{Reader, ScriptPart, is_skipped};
+use crate::reader::{LinesOf, Reader, ScriptPart, is_skipped};
 use crate::script::{ScriptError, bad_line, refusal};
 use crate::section::OpenSection;
-use crate::step::{MISPLACED, NOT_PLAIN, StepError};
+use crate::step::{MISPLACED, StepError};
 use crate::text::{self, Lines};
 use crate::words::Words;
 use event_words::{Section, Shape};
@@ -52,17 +52,21 @@ impl<'a> Reader<'a> {
 
     /// Whether a line may stand here, which writes no register and adds nothing to lane 1.
     fn may_stand(&self, words: &Words<'_>) -> bool
-        ensures { result ≡ spec.may_stand self.now words.now }
+        ensures { result ≡ lines.may_stand self.now words.now }
     {
         !words.is_word(0, b"w")
             && (0 < self.lanes.len() || words.is_word(0, b"lane") || words.is_word(0, b"end"))
     }
 
-    #[tactic(auto, unfolding(crate::specs::LiveLanes::lanes_words_step))]
-    fn lanes_words_line(&mut self, alloc: Global, words: &Words<'a>) -> Result<(), StepError>
+    #[tactic(auto, unfolding(crate::specs::Lines::lanes_words_step))]
+    pub(crate) fn lanes_words_line(
+        &mut self,
+        alloc: Global,
+        words: &Words<'a>,
+    ) -> Result<(), StepError>
         requires room { length self.old.section.commands ≤ 4194304 }
         requires sound { IsSound self.old }
-        ensures value { Moves result self.new (spec.lanes_words_step self.old words.now) }
+        ensures value { Moves result self.new (lines.lanes_words_step self.old words.now) }
         ensures sound { OnOk result (IsSound self.new) }
         ensures grown { OnOk result (length self.new.section.commands ≤ length self.old.section.commands + 1) }
     {
@@ -73,29 +77,6 @@ impl<'a> Reader<'a> {
             return Err(StepError::Code(MISPLACED));
         }
         self.placed_line(alloc, words)
-    }
-
-    /// Reads one more line of the lanes, which has these words. `plain` tells that it is known to be plain.
-    #[tactic(auto, unfolding(crate::specs::LiveLanes::lanes_line_step))]
-    fn lanes_line(
-        &mut self,
-        alloc: Global,
-        words: &Words<'a>,
-        line: &[u8],
-        plain: bool,
-    ) -> Result<(), StepError>
-        requires room { length self.old.section.commands ≤ 4194304 }
-        requires sound { IsSound self.old }
-        requires words { words.now ≡ words_of line.now }
-        requires plain { plain ≡ true → IsPlainLine line.now }
-        ensures value { Moves result self.new (spec.lanes_line_step self.old line.now) }
-        ensures sound { OnOk result (IsSound self.new) }
-        ensures grown { OnOk result (length self.new.section.commands ≤ length self.old.section.commands + 1) }
-    {
-        if !text::is_plain_line(line, plain) {
-            return Err(StepError::Code(NOT_PLAIN));
-        }
-        self.lanes_words_line(alloc, words)
     }
 }
 
@@ -138,7 +119,7 @@ pub fn read_lanes(alloc: Global, bytes: &[u8], first_line: u32) -> Result<Vec<Se
     let mut lines = Lines::of(bytes);
     let mut number = first_line;
     while let Some(line) = lines.next(&mut words) {
-        if let Err(error) = reader.lanes_line(alloc, &words, line, plain) {
+        if let Err(error) = reader.line(alloc, LinesOf::Lanes, &words, line, plain) {
             return Err(refusal(number, error));
         }
         number += 1;

@@ -32,6 +32,15 @@ pub enum ScriptPart {
     Finished,
 }
 
+/// What is read line by line.
+#[derive(Clone, Copy, Debug, PartialEq, Eq)]
+pub enum LinesOf {
+    /// A script.
+    Script,
+    /// The lanes of a live update.
+    Lanes,
+}
+
 /// What the lines so far gave, and which may come next. After a line that is refused it is of no more use.
 #[derive(Drop)]
 pub struct Reader<'a> {
@@ -319,6 +328,7 @@ impl<'a> Reader<'a> {
     pub fn line(
         &mut self,
         alloc: Global,
+        of: LinesOf,
         words: &Words<'a>,
         line: &[u8],
         plain: bool,
@@ -327,13 +337,16 @@ impl<'a> Reader<'a> {
         requires sound { IsSound self.old }
         requires words { words.now ≡ words_of line.now }
         requires plain { plain ≡ true → IsPlainLine line.now }
-        ensures value { Moves result self.new (spec.line_step self.old line.now) }
+        ensures value { Moves result self.new (spec.line_step of self.old line.now) }
         ensures sound { OnOk result (IsSound self.new) }
         ensures grown { OnOk result (length self.new.section.commands ≤ length self.old.section.commands + 1) }
     {
         if !text::is_plain_line(line, plain) {
             return Err(StepError::Code(NOT_PLAIN));
         }
-        self.words_line(alloc, words)
+        match of {
+            LinesOf::Script => self.words_line(alloc, words),
+            LinesOf::Lanes => self.lanes_words_line(alloc, words),
+        }
     }
 }

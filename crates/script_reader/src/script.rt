@@ -7,7 +7,7 @@ ghost use Rattle.script_reader.specs.Sound.{IsSound};
 ghost use Rattle.script_reader.specs.Canonical.{IsReadableScript, IsToldWholly};
 ghost use Rattle.script_reader.specs.Answers.{reading_of, refusal_of, Answers, Reads};
 
-use crate::reader::{Reader, ScriptPart};
+use crate::reader::{LinesOf, Reader, ScriptPart};
 use crate::step::{MISPLACED, NO_HEAD, StepError};
 use crate::text::{self, Lines};
 use crate::words::Words;
@@ -133,7 +133,7 @@ fn read_lines(alloc: Global, bytes: &[u8]) -> Result<Script, ScriptError>
     let mut lines = Lines::of(bytes);
     let mut number = 1u32;
     while let Some(line) = lines.next(&mut words) {
-        if let Err(error) = reader.line(alloc, &words, line, plain) {
+        if let Err(error) = reader.line(alloc, LinesOf::Script, &words, line, plain) {
             return Err(refusal(number, error));
         }
         number += 1;

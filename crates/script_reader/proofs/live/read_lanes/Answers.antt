@@ -25,10 +25,10 @@ loop-line-init c =
 pub loop-line-preserved : goal.loop-line-preserved
 loop-line-preserved c =
     let count = fewer c.in-Some.line.now c.loop-line.lines c.next.new.self c.in-Some.ensures.line in (
-      sym (lanes_ok c.loop-line.reader c.lanes_line.new.self c.loop-line.number c.in-Some.line.now c.loop-line.lines c.next.new.self c.in-Some.ensures.line c.in_default-lanes_line.ensures.value) ∙ c.loop-line.invariant.0,
+      sym (lanes_ok c.loop-line.reader c.line.new.self c.loop-line.number c.in-Some.line.now c.loop-line.lines c.next.new.self c.in-Some.ensures.line c.in_default-line.ensures.value) ∙ c.loop-line.invariant.0,
       omega (arith, c.loop-line.invariant.1, count),
-      omega (arith, c.loop-line.invariant.2, c.in_default-lanes_line.ensures.grown, count),
-      c.in_default-lanes_line.ensures.sound,
+      omega (arith, c.loop-line.invariant.2, c.in_default-line.ensures.grown, count),
+      c.in_default-line.ensures.sound,
       (first_plain c.is_plain_text-plain.result c.in-Some.line.now c.loop-line.lines c.next.new.self c.in-Some.ensures.line c.loop-line.invariant.4).1,
-      line_kept c.loop-line.reader c.lanes_line.new.self c.in-Some.line.now c.loop-line.invariant.5 c.in_default-lanes_line.ensures.value,
+      line_kept c.loop-line.reader c.line.new.self c.in-Some.line.now c.loop-line.invariant.5 c.in_default-line.ensures.value,
     )
