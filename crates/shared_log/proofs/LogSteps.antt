@@ -65,7 +65,7 @@ module _ (C B : ℕ) where
         let found : F ≡ x = next-word s r id me.0 q ∙ ap (λ (l : List ℕ). get_or (l ++ replicate r.empty_words 0) 0 0) more in
         let is_word : AllEventWords (x ∷ xs) = subst (AllEventWords) more (AllEventWords-right me.0.log q.has.rest (subst (AllEventWords) q.has.begins r.events)) in
         let full : F ≢ zero = λ e. word-nonzero x is_word.0 (sym found ∙ e) in
-        let kept : IsSharedLog C B s.words (set s.views id (with_word me.0 x)) = lost C B s.words s.views r id me.0 q x xs more in (
+        let kept : IsSharedLog C B s.words (set s.views id (with_word me.0 x)) = lost C B s.words s.views r id me.0 at q x xs more in (
           with_word me.0 x,
           keeps,
           tt,
@@ -114,6 +114,7 @@ module _ (C B : ℕ) where
     word_count = omega arith;
     events = tt;
     few = one;
+    first = record { view = opening_view C B; seat = refl; live = refl; number = refl };
     within = λ c. omega arith;
     unmade = λ c h. (refl, only-first c h);
     done = λ c l e. absurd (some-ne-none l (sym e));

@@ -5,14 +5,26 @@ use mathlib.Core.Logic.{dite}
 use mathlib.Core.Option.{Option, none, some, some-injective, some-ne-none}
 use native.Mathlib.Decide.{ℕ_discrete, dec_le}
 use lib.ListN.{get_elem?}
-use Rattle.atomic_table.proofs.Lists.{at_set, set_else}
+use Rattle.atomic_table.proofs.Lists.{at_set, set_here, set_else, at_longer}
 use Rattle.shared_log.specs.declared.seat_view.SeatView.{SeatView}
 use Rattle.event_words.specs.Runs.{caller_of_word, IsEventWord}
 use Rattle.shared_log.specs.Words.{words_by, AllEventWords, BeginsWithLog}
 use Rattle.shared_log.specs.SeatViews.{IsSeatView, with_word, with_caller, new_caller, with_joined_log, spent_view}
-use Rattle.shared_log.specs.Rule.{IsCallerSeat, IsSharedLog}
+use Rattle.shared_log.specs.Rule.{IsCallerSeat, HasLiveFirst, IsSharedLog}
 use Rattle.shared_log.proofs.Counting.{words-own, below_all}
-use Rattle.shared_log.proofs.WordLists.{at_end, set-behind, append-none-right, AllEventWords-append, AllEventWords-left, words-append, words-prefix-none, words-prefix-length, words-snoc-other, words-snoc-length}
+use Rattle.shared_log.proofs.WordLists.{at_end, at-below, set-behind, append-none-right, AllEventWords-append, AllEventWords-left, words-append, words-prefix-none, words-prefix-length, words-snoc-other, words-snoc-length}
+
+-- the first caller stays live when the view of one seat changes, if it does in that view
+first_kept : (views : List SeatView) (i : ℕ) (v w : SeatView) → get_elem? views i ≡ some v → (v.live ≡ true → v.number ≡ 0 → (w.live ≡ true) × (w.number ≡ 0)) → HasLiveFirst views → HasLiveFirst (set views i w)
+first_kept views i v w at keeps h = dite (ℕ_discrete 0 i)
+    (λ here. let same : h.view ≡ v = some-injective h.view v (sym h.seat ∙ ap (get_elem? views) here ∙ at) in
+    let k = keeps (ap (λ (x : SeatView). x.live) (sym same) ∙ h.live) (ap (λ (x : SeatView). x.number) (sym same) ∙ h.number) in record {
+      view = w;
+      seat = ap (get_elem? (set views i w)) here ∙ set_here views i w (at-below views i v at);
+      live = k.0;
+      number = k.1;
+    })
+    (λ away. record { view = h.view; seat = set_else views i 0 w away ∙ h.seat; live = h.live; number = h.number })
 
 module _ (C B : ℕ) where
   -- another caller's word more
@@ -52,8 +64,9 @@ module _ (C B : ℕ) where
   room_of v h k lt less = below_all v.callers v.budget k v.log h.above h.within lt less
 
   -- a seat may have any view that fits its place in the log
-  pub replaced : (words : List ℕ) (views : List SeatView) (r : IsSharedLog C B words views) (id : ℕ) (v : SeatView) → (v.live ≡ true → IsCallerSeat C B r.log r.seat r.made r.joined id v) → IsSharedLog C B words (set views id v)
-  replaced words views r id v q = record {
+  pub replaced : (words : List ℕ) (views : List SeatView) (r : IsSharedLog C B words views) (id : ℕ) (v : SeatView) → (v.live ≡ true → IsCallerSeat C B r.log r.seat r.made r.joined id v) → HasLiveFirst (set views id v) → IsSharedLog C B words (set views id v)
+  replaced words views r id v q first = record {
+    first = first;
     log = r.log;
     empty_words = r.empty_words;
     seat = r.seat;
@@ -97,6 +110,7 @@ module _ (C B : ℕ) where
         seat = r.seat;
         made = r.made;
         joined = r.joined;
+        first = first_kept views id v (with_word v w) at (λ l z. (l, z)) r.first;
         words_are = ap (λ (l : List ℕ). set l (length v.log) w) laid ∙ set-behind v.log 0 w (replicate f 0) ∙ sym (append_assoc v.log (w ∷ []) (replicate f 0)) ∙ ap (λ (l : List ℕ). (l ++ w ∷ []) ++ replicate f 0) (sym same);
         word_count = let t = r.word_count in omega (arith, length-append r.log (w ∷ []));
         events = AllEventWords-append r.log (w ∷ []) r.events (event, tt);
@@ -125,9 +139,9 @@ module _ (C B : ℕ) where
       }
 
   -- the next word is another caller's: it becomes known
-  pub lost : (words : List ℕ) (views : List SeatView) (r : IsSharedLog C B words views) (id : ℕ) (v : SeatView) (q : IsCallerSeat C B r.log r.seat r.made r.joined id v) (x : ℕ) (xs : List ℕ) → q.has.rest ≡ x ∷ xs
+  pub lost : (words : List ℕ) (views : List SeatView) (r : IsSharedLog C B words views) (id : ℕ) (v : SeatView) → get_elem? views id ≡ some v → (q : IsCallerSeat C B r.log r.seat r.made r.joined id v) (x : ℕ) (xs : List ℕ) → q.has.rest ≡ x ∷ xs
       → IsSharedLog C B words (set views id (with_word v x))
-  lost words views r id v q x xs more = replaced words views r id (with_word v x) (λ _. record {
+  lost words views r id v at q x xs more = replaced words views r id (with_word v x) (λ _. record {
     callers_is = q.callers_is;
     budget_is = q.budget_is;
     seat_is = q.seat_is;
@@ -137,7 +151,7 @@ module _ (C B : ℕ) where
       begins = q.has.begins ∙ ap (λ (l : List ℕ). v.log ++ l) more ∙ sym (append_assoc v.log (x ∷ []) xs);
       no_more = append-none-right (words_by v.number (x ∷ [])) (words_by v.number xs) (sym (words-append v.number (x ∷ []) xs) ∙ ap (words_by v.number) (sym more) ∙ q.has.no_more);
     };
-  })
+  }) (first_kept views id v (with_word v x) at (λ l z. (l, z)) r.first)
 
   pub not_own : (words : List ℕ) (views : List SeatView) (r : IsSharedLog C B words views) (id : ℕ) (v : SeatView) (q : IsCallerSeat C B r.log r.seat r.made r.joined id v) (x : ℕ) (xs : List ℕ) → q.has.rest ≡ x ∷ xs → caller_of_word x ≢ v.number
   not_own words views r id v q x xs more is = let e : x ∷ words_by v.number xs ≡ [] = sym (words-own v.number x xs is) ∙ ap (words_by v.number) (sym more) ∙ q.has.no_more in cc
@@ -160,7 +174,9 @@ module _ (C B : ℕ) where
       let made : v.made ≡ r.made = (q.first is_first).0 in
       let n : ℕ = length (set views id (with_caller v)) in
       let seat' : ℕ → Option ℕ = seat_more r.seat r.made n in
+      let first = first_kept views id v (with_caller v) at (λ l z. (l, z)) r.first in
       record {
+        first = record { view = first.view; seat = at_longer (set views id (with_caller v)) (new_caller v ∷ []) 0 first.view first.seat; live = first.live; number = first.number };
         log = r.log;
         empty_words = r.empty_words;
         seat = seat';
@@ -229,6 +245,7 @@ module _ (C B : ℕ) where
       let seat' : ℕ → Option ℕ = seat_less r.seat u.number in
       let joined' : List (List ℕ) = r.joined ++ u.log ∷ [] in
       record {
+        first = first_kept (set views id (with_joined_log v u)) other u spent_view at' (λ l z. absurd (omega arith)) (first_kept views id v (with_joined_log v u) at (λ l z. (l, z)) r.first);
         log = r.log;
         empty_words = r.empty_words;
         seat = seat';

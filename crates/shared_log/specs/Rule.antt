@@ -1,5 +1,5 @@
--- The rule of the table: its words are one log of events and then zeros, and each live seat knows a
--- beginning of the log that has all words of its own number.
+-- The rule of the table: its words are one log of events and then zeros, each live seat knows a
+-- beginning of the log that has all words of its own number, and the first caller's seat is live.
 use Rattle.std.specs.Prelude.{◌≡◌, ℕ, suc, ◌+◌, ◌*◌, ◌<◌, ◌≤◌, true, List, [], ◌++◌, length, replicate}
 use mathlib.Core.Option.{Option, none, some}
 use lib.ListN.{get_elem?}
@@ -13,6 +13,13 @@ pub record IsCallerSeat (callers budget : ℕ) (log : List ℕ) (seat : ℕ → 
   pub seat_is : seat v.number ≡ some id
   pub has : BeginsWithLog v.number log v.log
   pub first : v.number ≡ 0 → (v.made ≡ made) × (v.joined ≡ joined)
+
+-- Seat 0 is the first caller's: it has number 0, and it stays live while the table is open.
+pub record HasLiveFirst (views : List SeatView) : Type 0 where
+  pub view : SeatView
+  pub seat : get_elem? views 0 ≡ some view
+  pub live : view.live ≡ true
+  pub number : view.number ≡ 0
 
 -- `made` callers were made so far. `joined` has the logs of the callers 1, 2 and so on that were joined.
 pub record IsSharedLog (callers budget : ℕ) (words : List ℕ) (views : List SeatView) : Type 0 where
@@ -29,3 +36,4 @@ pub record IsSharedLog (callers budget : ℕ) (words : List ℕ) (views : List S
   pub unmade : (c : ℕ) → made ≤ c → (words_by c log ≡ []) × (seat c ≡ none)
   pub done : (c : ℕ) (l : List ℕ) → get_elem? joined c ≡ some l → (suc c < made) × (seat (suc c) ≡ none) × BeginsWithLog (suc c) log l
   pub seated : (id : ℕ) (v : SeatView) → get_elem? views id ≡ some v → v.live ≡ true → IsCallerSeat callers budget log seat made joined id v
+  pub first : HasLiveFirst views

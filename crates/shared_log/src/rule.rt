@@ -9,7 +9,8 @@ pub struct LogSize {
     pub budget: u64,
 }
 
-/// The rule of the table: its words are one log, of which each live seat knows a beginning.
+/// The rule of the table: its words are one log, of which each live seat knows a beginning, and the
+/// first caller's seat is live.
 pub struct LogRule;
 
 impl TableRule<(), SeatView, LogSize> for LogRule {
