@@ -44,7 +44,8 @@ fn judge_until<M: Machine>(
     requires place { place < 2 ^ 24 }
     requires tries { 1 ≤ tries }
     requires left { tries ≤ caller.old.left }
-    ensures judges { JudgesUntil M.after M.reply caller.old (events.Judge unit caller.old.number place) tries result caller.new }
+    ensures judges { JudgesUntil M.after M.reply caller.old
+        (events.Judge unit caller.old.number place) tries result caller.new }
     ensures caller { IsCaller M.state M.next_place M.places M.after caller.new }
 {
     let judgement = Event::Judge {
@@ -86,7 +87,8 @@ fn submit<M: Machine>(
     requires unit { unit < 4 }
     requires access { IsValidAccess access }
     requires left { submission_events access ≤ caller.old.left }
-    ensures submits { SubmitsOrMisses M.after M.reply caller.old stage unit access result caller.new }
+    ensures submits { SubmitsOrMisses M.after M.reply caller.old stage unit access result
+        caller.new }
     ensures caller { IsCaller M.state M.next_place M.places M.after caller.new }
 {
     let number = caller.number();
@@ -130,7 +132,8 @@ fn pass_stage<M: Machine>(
     requires access { IsValidAccess access }
     requires tries { 1 ≤ tries }
     requires left { submission_events access + tries ≤ caller.old.left }
-    ensures passes { PassesStage M.after M.reply caller.old stage unit access tries result caller.new }
+    ensures passes { PassesStage M.after M.reply caller.old stage unit access tries result
+        caller.new }
     ensures caller { IsCaller M.state M.next_place M.places M.after caller.new }
     ensures next { (next : _) → result ≡ answers.Allowed next → next ≤ 63 }
 {
@@ -170,7 +173,8 @@ pub fn send_through<M: Machine>(
     requires access { IsValidAccess access }
     requires tries { 1 ≤ tries }
     requires left { length stages.now * (submission_events access + tries) ≤ caller.old.left }
-    ensures sends { SendsThrough M.after M.reply caller.old stages.now access tries result caller.new }
+    ensures sends { SendsThrough M.after M.reply caller.old stages.now access tries result
+        caller.new }
     ensures caller { IsCaller M.state M.next_place M.places M.after caller.new }
 {
     let mut requester = access.rrid;

@@ -17,7 +17,8 @@ pub fn run_lanes<R: Threads + Sync, G: Gate + Sync>(
     gate: &G,
 )
     requires { All (λ l. MayRun shared.now l) lanes.old }
-    ensures { (k : ℕ) (d : _) → k < length lanes.old → Runs (slice_index_or lanes.old k d) (slice_index_or lanes.new k d) }
+    ensures { (k : ℕ) (d : _) → k < length lanes.old →
+        Runs (slice_index_or lanes.old k d) (slice_index_or lanes.new k d) }
 {
     let threads = lanes.len();
     if threads == 0 {

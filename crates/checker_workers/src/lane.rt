@@ -57,7 +57,11 @@ impl Lane {
     /// are left to the port's caller. All memory is taken here.
     pub fn new(alloc: Global, section: Section, port: Port) -> Result<Lane, NoMemory>
         requires { MayPlay section port }
-        ensures { IfOk result (λ lane. lane ≡ record { section = section; port = port; ended = ends.Fresh }) }
+        ensures { IfOk result (λ lane. lane ≡ record {
+          section = section;
+          port = port;
+          ended = ends.Fresh;
+        }) }
     {
         let slots = section.slots as usize;
         let Ok(table) = Vec::with_capacity(alloc, slots) else {

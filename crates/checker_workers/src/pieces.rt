@@ -65,7 +65,8 @@ fn poll<G: Gate>(
     requires some { 1 ≤ max }
     requires unit { watch.unit < unit_count port.old }
     requires index { watch.index < 2 ^ 22 }
-    ensures { Polls port.old (events.RegRead watch.unit port.old.number watch.index) watch.mask watch.value max result port.new }
+    ensures { Polls port.old (events.RegRead watch.unit port.old.number watch.index) watch.mask
+        watch.value max result port.new }
 {
     for _i in 0..max {
         tell(gate, port, first);
@@ -210,8 +211,10 @@ pub(crate) fn play_command<G: Gate>(
     requires units { NamesUnits (unit_count port.old) command }
     requires room { is_submit command ≡ true → vec_len table.old < vec_capacity table.old }
     requires tickets { IsTicketTable port.old table.old.items }
-    ensures plays { PlaysCommand port.old table.old.items command port.new table.new.items (not result) }
-    ensures count { vec_len table.new ≡ (if is_submit command then vec_len table.old + 1 else vec_len table.old) }
+    ensures plays { PlaysCommand port.old table.old.items command port.new table.new.items
+        (not result) }
+    ensures count { vec_len table.new ≡ (if is_submit command then vec_len table.old + 1 else
+        vec_len table.old) }
     ensures capacity { vec_capacity table.new ≡ vec_capacity table.old }
 {
     match command {

@@ -103,7 +103,8 @@ impl Port {
         requires left { 1 ≤ self.old.left }
         requires unit { unit < unit_count self.old }
         requires index { index < 2 ^ 22 }
-        ensures { MakesEvent self.old (events.RegWrite unit self.old.number index value) (replies.Value result) self.new }
+        ensures { MakesEvent self.old (events.RegWrite unit self.old.number index value)
+            (replies.Value result) self.new }
     {
         let caller = self.number();
         let event = Event::RegWrite {
@@ -122,7 +123,8 @@ impl Port {
         requires left { 1 ≤ self.old.left }
         requires unit { unit < unit_count self.old }
         requires index { index < 2 ^ 22 }
-        ensures { MakesEvent self.old (events.RegRead unit self.old.number index) (replies.Value result) self.new }
+        ensures { MakesEvent self.old (events.RegRead unit self.old.number index)
+            (replies.Value result) self.new }
     {
         let caller = self.number();
         let event = Event::RegRead {
@@ -151,7 +153,8 @@ impl Port {
         requires left { 1 ≤ self.old.left }
         requires unit { unit < unit_count self.old }
         requires access { IsValidAccess access }
-        ensures event { MakesEvent self.old (wide_event unit self.old.number access) result self.new }
+        ensures event { MakesEvent self.old (wide_event unit self.old.number access) result
+            self.new }
         ensures reset { IsAtReset self.old.first }
         ensures number { self.old.number < 32 }
     {

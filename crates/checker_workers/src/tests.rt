@@ -68,7 +68,8 @@ fn replica(alloc: Global) -> Result<Fabric, unit_core::NoMemory>
 }
 
 fn two_reads(alloc: Global) -> Result<Section, AllocError>
-    ensures { IfOk result (λ section. section ≡ record { commands = commands.Read 0 2 ∷ commands.Read 0 2 ∷ []; slots = 0 }) }
+    ensures { IfOk result (λ section. section ≡ record
+        { commands = commands.Read 0 2 ∷ commands.Read 0 2 ∷ []; slots = 0 }) }
 {
     let read = Command::Read { unit: 0, index: 2 };
     let commands = Vec::from_slice(alloc, &[read, read])?;

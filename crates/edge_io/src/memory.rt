@@ -31,7 +31,13 @@ impl Model for MemorySource {
 
     ghost Value = { SourceState };
 
-    ghost view = { λ s. record { left = drop s.at s.bytes.items; failing = s.failing.items; chunk = s.chunk; calls = s.calls; faults = s.faults } };
+    ghost view = { λ s. record {
+      left = drop s.at s.bytes.items;
+      failing = s.failing.items;
+      chunk = s.chunk;
+      calls = s.calls;
+      faults = s.faults;
+    } };
 
     ghost invariant = { λ s. (s.at ≤ length s.bytes.items) × (1 ≤ s.chunk) };
 }
@@ -41,7 +47,13 @@ impl MemorySource {
     /// numbers, counted from 0, are in `failing` fail, and 2^32 - 1 stands for every read from that one on.
     pub fn new(bytes: Vec<u8>, failing: Vec<u32>, chunk: usize) -> MemorySource
         requires { 1 ≤ chunk }
-        ensures { result ≡ record { left = bytes.items; failing = failing.items; chunk = chunk; calls = 0; faults = 0 } }
+        ensures { result ≡ record {
+          left = bytes.items;
+          failing = failing.items;
+          chunk = chunk;
+          calls = 0;
+          faults = 0;
+        } }
     {
         MemorySource {
             bytes,
@@ -99,9 +111,17 @@ impl Model for MemorySink {
 
     ghost Value = { SinkState };
 
-    ghost view = { λ s. record { taken = s.bytes.items; room = s.room; failing = s.failing.items; chunk = s.chunk; calls = s.calls; faults = s.faults } };
+    ghost view = { λ s. record {
+      taken = s.bytes.items;
+      room = s.room;
+      failing = s.failing.items;
+      chunk = s.chunk;
+      calls = s.calls;
+      faults = s.faults;
+    } };
 
-    ghost invariant = { λ s. (length s.bytes.items ≤ s.room) × (s.room ≤ vec_capacity s.bytes) × (1 ≤ s.chunk) };
+    ghost invariant = { λ s. (length s.bytes.items ≤ s.room) × (s.room ≤ vec_capacity s.bytes)
+        × (1 ≤ s.chunk) };
 }
 
 impl MemorySink {
@@ -115,7 +135,14 @@ impl MemorySink {
         chunk: usize,
     ) -> Result<MemorySink, NoMemory>
         requires { 1 ≤ chunk }
-        ensures { IfOk result (λ s. s ≡ record { taken = []; room = room; failing = failing.items; chunk = chunk; calls = 0; faults = 0 }) }
+        ensures { IfOk result (λ s. s ≡ record {
+          taken = [];
+          room = room;
+          failing = failing.items;
+          chunk = chunk;
+          calls = 0;
+          faults = 0;
+        }) }
     {
         let Ok(bytes) = Vec::with_capacity(alloc, room) else {
             return Err(NoMemory);
@@ -150,7 +177,8 @@ impl Sink for MemorySink {
         ensures bytes { WriteAppends (Some self.old.taken) (Some self.new.taken) result piece.now }
         ensures counted { CountsFaults self.old.faults self.new.faults result }
 
-        ensures fails { IsErr result ↔ (Contains self.old.failing self.old.calls ⊎ (self.old.room ≤ length self.old.taken)) }
+        ensures fails { IsErr result ↔ (Contains self.old.failing self.old.calls ⊎
+            (self.old.room ≤ length self.old.taken)) }
         ensures count { IfOk result (λ n. n ≡ taken_count self.old piece.now) }
         ensures ok { OnOk result (self.new ≡ after_write self.old piece.now) }
         ensures err { OnErr result (self.new ≡ after_failed_write self.old) }

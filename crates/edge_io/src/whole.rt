@@ -41,10 +41,12 @@ pub fn read_all<S: Source>(
     ensures within { IfOk result (λ v. length v.items ≤ limit) }
     ensures given { TakesFront (S.left source.old) (S.left source.new)
         (λ given. IsErrOf result ReadError.TooLong ↔ (limit < length given)) }
-    ensures too_long { IsErrOf result ReadError.TooLong → IfSome (S.left source.old) (λ left. limit < length left) }
+    ensures too_long { IsErrOf result ReadError.TooLong →
+        IfSome (S.left source.old) (λ left. limit < length left) }
     ensures refused { IfSome (S.left source.old) (λ left. limit < length left → IsErr result) }
 
-    ensures fault { IsErrOf result ReadError.Fault → Rose (S.faults source.old) (S.faults source.new) }
+    ensures fault { IsErrOf result ReadError.Fault →
+        Rose (S.faults source.old) (S.faults source.new) }
     ensures faults { S.faults source.old ≤ S.faults source.new }
 {
     let mut bytes = Vec::new(alloc);

@@ -15,7 +15,8 @@ const PIECE: usize = 8192;
 
 /// Takes bytes until the source ends, fails, or there are more than `limit`. It answers whether it failed.
 fn take_ahead<S: Source>(source: &mut S, bytes: &mut Vec<u8>, limit: usize) -> bool
-    ensures { TakesFront (S.left source.old) (S.left source.new) (λ given. bytes.new.items ≡ bytes.old.items ++ given) }
+    ensures { TakesFront (S.left source.old) (S.left source.new)
+        (λ given. bytes.new.items ≡ bytes.old.items ++ given) }
 {
     let mut piece = [0u8; PIECE];
     while bytes.len() <= limit {
@@ -51,7 +52,12 @@ impl<S> Model for AheadSource<S> {
 
     ghost Value = { AheadView S };
 
-    ghost view = { λ s. record { inner = s.inner; ahead = drop s.at s.bytes.items; failed = s.failed; faults = s.faults } };
+    ghost view = { λ s. record {
+      inner = s.inner;
+      ahead = drop s.at s.bytes.items;
+      failed = s.failed;
+      faults = s.faults;
+    } };
 
     ghost invariant = { λ s. s.at ≤ length s.bytes.items };
 }
@@ -94,7 +100,8 @@ impl<S: Source> Source for AheadSource<S> {
 
     fn read(&mut self, buf: &mut [u8]) -> Result<usize, Failed>
         ensures bound { ReadsAtMost result buf.new }
-        ensures bytes { ReadConsumes (left_of S.left self.old) (left_of S.left self.new) result buf.new }
+        ensures bytes { ReadConsumes (left_of S.left self.old)
+            (left_of S.left self.new) result buf.new }
         ensures counted { CountsFaults self.old.faults self.new.faults result }
     {
         let count = buf.len().min(self.bytes.len() - self.at);

@@ -27,7 +27,8 @@ pub struct MixedRun {
 /// How many lanes the words play, of those in the input where they stand there. An input that is too long has none.
 fn count_lanes<S: Source>(alloc: Global, words: &[String], source: &mut AheadSource<S>) -> u8
     ensures looks { LooksAhead S.left source.old source.new }
-    ensures unread { LeavesSource (command_of (map string_bytes words.now)) → source.new ≡ source.old }
+    ensures unread { LeavesSource (command_of (map string_bytes words.now)) → source.new
+        ≡ source.old }
 {
     let lanes = played(words);
     if lanes.are_read() {
@@ -56,7 +57,8 @@ pub fn mixed<R: Threads + Clock + Sync, S: Source, K: Sink>(
     ensures completes { Completes (command_of (map string_bytes words.now))
         (change (left_of S.left) handed_on source.old source.new) (change K.taken K.faults sink.old sink.new)
         result.outcome.status }
-    ensures unread { LeavesSource (command_of (map string_bytes words.now)) → source.new ≡ source.old }
+    ensures unread { LeavesSource (command_of (map string_bytes words.now)) → source.new
+        ≡ source.old }
     ensures unwritten { LeavesSink result.outcome.status → sink.new ≡ sink.old }
 {
     let lanes = count_lanes(alloc, words, source);

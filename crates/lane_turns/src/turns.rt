@@ -24,7 +24,12 @@ impl Model for Turns {
 
     ghost Value = { TurnsView };
 
-    ghost view = { λ t. record { lanes = t.lanes; given = t.given; holder = t.holder; gone = t.gone } };
+    ghost view = { λ t. record {
+      lanes = t.lanes;
+      given = t.given;
+      holder = t.holder;
+      gone = t.gone;
+    } };
 
     ghost inverse = { λ t. record { lanes = t.lanes; given = t.given; holder = t.holder; gone = t.gone } };
 

@@ -43,7 +43,8 @@ fn with_entry(regs: &Regs, access: &Access, summary: Summary, entry: u16) -> Sum
 fn covering_below(regs: &Regs, access: &Access, end: u16) -> Summary
     requires inside { end ≤ regs.now.shape.entries }
     requires access { IsValidAccess access.now }
-    ensures { IsSummary regs.now access.now (filter (is_covering regs.now access.now) (range_with_len 0 end)) result }
+    ensures { IsSummary regs.now access.now (filter (is_covering regs.now access.now)
+        (range_with_len 0 end)) result }
 {
     let mut summary = Summary {
         first: None,

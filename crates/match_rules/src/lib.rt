@@ -20,7 +20,8 @@ use register_fields::{Regs, has_bit};
 use srcmd_formats::{refusal, violation};
 
 fn by_covering(access: &Access, summary: Summary) -> Decision
-    ensures { (r : Registers) (js : List ℕ) → IsSummary r access.now js summary → result ≡ by_covering r access.now js }
+    ensures { (r : Registers) (js : List ℕ) → IsSummary r access.now js summary → result
+        ≡ by_covering r access.now js }
 {
     match summary.first {
         None => violation(5, 0xffff),

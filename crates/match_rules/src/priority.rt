@@ -13,7 +13,8 @@ use register_fields::Regs;
 fn first_in(regs: &Regs, access: &Access, from: u16, to: u16) -> Option<u16>
     requires inside { to ≤ regs.now.shape.entries }
     requires access { IsValidAccess access.now }
-    ensures value { result ≡ find (is_touching regs.now access.now) (range_with_len from (to - from)) }
+    ensures value { result ≡ find (is_touching regs.now access.now)
+        (range_with_len from (to - from)) }
     ensures inside { IfSome result (λ entry. entry < regs.now.shape.entries) }
     ensures own { IfSome result (λ entry. IsTrue (is_entry_of regs.now access.now.rrid entry)) }
 {

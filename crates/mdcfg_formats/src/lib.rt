@@ -63,7 +63,8 @@ pub fn run_end(regs: &Regs, domain: u8, from: u16, limit: u16) -> u16
 /// Both are 0 where it owns none.
 pub fn span_of(regs: &Regs, domain: u8) -> (u16, u16)
     requires { domain < regs.now.shape.domains }
-    ensures exact { (j : ℕ) → j < regs.now.shape.entries → (owner_of regs.now j ≡ Some domain) ↔ ((result.0 ≤ j) × (j < result.1)) }
+    ensures exact { (j : ℕ) → j < regs.now.shape.entries →
+        (owner_of regs.now j ≡ Some domain) ↔ ((result.0 ≤ j) × (j < result.1)) }
     ensures inside { result.1 ≤ regs.now.shape.entries }
     ensures none { result.1 ≤ result.0 → (result.0 ≡ 0) × (result.1 ≡ 0) }
 {

@@ -22,7 +22,8 @@ const STALL: u32 = 1 << 30;
 
 /// Stalls a requester.
 fn stall(commands: &mut Vec<Command>, rrid: u8) -> Result<(), AllocError>
-    ensures { IfOk result (λ _. commands.new.items ≡ commands.old.items ++ stall_command rrid ∷ []) }
+    ensures { IfOk result (λ _. commands.new.items ≡ commands.old.items ++ stall_command rrid ∷
+        []) }
 {
     commands.push(Command::Write {
         unit: 0,

@@ -66,7 +66,8 @@ fn bottom(rule: &Rule) -> EntryWords
 
 fn top(rule: &Rule) -> EntryWords
     requires { IsRule rule.now }
-    ensures { result ≡ entry_with ((rule.now.from + rule.now.size) / 4) (rights_bits rule.now.rights + 8) }
+    ensures { result ≡ entry_with ((rule.now.from + rule.now.size) / 4)
+        (rights_bits rule.now.rights + 8) }
 {
     EntryWords {
         word: (rule.from + rule.size) / 4,

@@ -32,7 +32,12 @@ impl Model for PolicyDomain {
 
     ghost Value = { DomainOf };
 
-    ghost view = { λ d. record { name = d.name.items; rrids = d.rrids; guards = d.guards.items; grants = d.grants.items } };
+    ghost view = { λ d. record {
+      name = d.name.items;
+      rrids = d.rrids;
+      guards = d.guards.items;
+      grants = d.grants.items;
+    } };
 }
 
 /// What a unit shall decide about each access.

@@ -120,7 +120,8 @@ fn from_one(width: u8, rule: Rule, which: FieldValue) -> u32
 #[inline(always)]
 fn with_lock(width: u8, rule: Rule, which: FieldValue) -> u32
     requires { width ≤ 31 }
-    ensures { result ≡ sum_by (field_value which) (field 0 1 Rule.SetOnly 0 ∷ field 1 width rule 0 ∷ []) }
+    ensures { result ≡ sum_by (field_value which)
+        (field 0 1 Rule.SetOnly 0 ∷ field 1 width rule 0 ∷ []) }
 {
     sum_of(
         &[field(0, 1, Rule::SetOnly, 0), field(1, width, rule, 0)],
@@ -264,7 +265,8 @@ fn sum_of_err_info(which: FieldValue) -> u32
 
 #[inline(always)]
 fn sum_of_entry_cfg(which: FieldValue) -> u32
-    ensures { (h : Shape) (n : ℕ) → result ≡ sum_by (field_value which) (fields_of h (Register.EntryCfg n)) }
+    ensures { (h : Shape) (n : ℕ) → result ≡ sum_by (field_value which)
+        (fields_of h (Register.EntryCfg n)) }
 {
     sum_of(
         &[

@@ -51,7 +51,8 @@ fn reset_word(shape: &Shape, index: u32) -> u32
 
 fn reset_words(alloc: Global, shape: &Shape) -> Result<Vec<u32>, AllocError>
     requires { IsValidShape shape.now }
-    ensures words { IfOk result (λ v. v.items ≡ map (reset_word shape.now) (range_with_len 0 (index_count shape.now))) }
+    ensures words { IfOk result (λ v. v.items ≡ map (reset_word shape.now)
+        (range_with_len 0 (index_count shape.now))) }
     ensures len { IfOk result (λ v. length v.items ≡ index_count shape.now) }
 {
     let count = 2048 + 4 * shape.entries as u32;
@@ -132,7 +133,8 @@ impl Regs {
     /// 2 s + 1 of SRCMD_PERM.
     pub fn pair(&self, low: Register) -> u64
         requires { index_of low + 1 < 2048 }
-        ensures { (i : ℕ) → has_bit result i ≡ has_pair_bit (reg self.now low) (word_at self.now (index_of low + 1)) i }
+        ensures { (i : ℕ) → has_bit result i ≡ has_pair_bit (reg self.now low)
+            (word_at self.now (index_of low + 1)) i }
     {
         let index = low.index() as usize;
         joined(self.words[index], self.words[index + 1])

@@ -182,7 +182,8 @@ pub fn submit(units: u8, slot: u32, words: &Words<'_>) -> Result<Command, u8>
 #[tactic(auto, unfolding(crate::specs::Commands::judge_at))]
 fn judge(names: &Names<'_>, words: &Words<'_>) -> Result<Command, u8>
     ensures value { result ≡ judge_at names.now words.now }
-    ensures good { IfOk result (λ command. (units : ℕ) → IsGoodCommand units (length names.now) command) }
+    ensures good { IfOk result (λ command. (units : ℕ) → IsGoodCommand units
+        (length names.now) command) }
     ensures other { IfOk result (λ command. is_submit command ≡ false) }
 {
     if words.len() != 2 {
@@ -195,7 +196,8 @@ fn judge(names: &Names<'_>, words: &Words<'_>) -> Result<Command, u8>
 #[tactic(auto, unfolding(crate::specs::Commands::settle_at))]
 fn settle(names: &Names<'_>, words: &Words<'_>) -> Result<Command, u8>
     ensures value { result ≡ settle_at names.now words.now }
-    ensures good { IfOk result (λ command. (units : ℕ) → IsGoodCommand units (length names.now) command) }
+    ensures good { IfOk result (λ command. (units : ℕ) → IsGoodCommand units
+        (length names.now) command) }
     ensures other { IfOk result (λ command. is_submit command ≡ false) }
 {
     if words.len() != 4 || !words.is_word(2, b"max") {

@@ -68,7 +68,8 @@ impl<'a> Reader<'a> {
         requires sound { IsSound self.old }
         ensures value { Moves result self.new (lines.lanes_words_step self.old words.now) }
         ensures sound { OnOk result (IsSound self.new) }
-        ensures grown { OnOk result (length self.new.section.commands ≤ length self.old.section.commands + 1) }
+        ensures grown { OnOk result (length self.new.section.commands ≤
+            length self.old.section.commands + 1) }
     {
         if is_skipped(words) {
             return Ok(());

@@ -60,7 +60,8 @@ fn short_numeral(base: u64, digits: &[u8]) -> Option<u64>
 fn long_numeral(base: u64, digits: &[u8]) -> Option<Option<u64>>
     requires low { 1 ≤ base }
     requires high { base ≤ 16 }
-    ensures { option_map held result ≡ option_map (λ n. min n (2 ^ 64)) (numeral_after base 0 digits.now) }
+    ensures { option_map held result ≡ option_map (λ n. min n (2 ^ 64))
+        (numeral_after base 0 digits.now) }
 {
     let mut number = Some(0u64);
     for byte in digits {
@@ -76,7 +77,8 @@ fn long_numeral(base: u64, digits: &[u8]) -> Option<Option<u64>>
 fn numeral(base: u64, most: usize, digits: &[u8]) -> Option<Option<u64>>
     requires low { 1 ≤ base }
     requires high { base ≤ 16 }
-    ensures { option_map held result ≡ option_map (λ n. min n (2 ^ 64)) (numeral_of base most digits.now) }
+    ensures { option_map held result ≡ option_map (λ n. min n (2 ^ 64))
+        (numeral_of base most digits.now) }
 {
     if digits.is_empty() || digits.len() > most {
         return None;

@@ -246,7 +246,8 @@ fn push_commands(out: &mut Vec<u8>, line: &mut Line, commands: &[Command]) -> Re
 }
 
 fn push_heading(out: &mut Vec<u8>, line: &mut Line, number: u64) -> Result<(), AllocError>
-    ensures { OnOk result (out.new.items ≡ out.old.items ++ (codes "lane " ++ (decimal number ++ codes "\n"))) }
+    ensures { OnOk result (out.new.items ≡ out.old.items ++
+        (codes "lane " ++ (decimal number ++ codes "\n"))) }
 {
     line.clear();
     line.put(b"\n");
@@ -295,7 +296,8 @@ fn script_bytes(alloc: Global, script: &Script) -> Result<Vec<u8>, AllocError>
 /// can't be read has a text too, which then need not stand for it.
 pub fn print_script(alloc: Global, script: &Script) -> Result<Vec<u8>, NoMemory>
     ensures text { IfOk result (λ text. text.items ≡ script_text script.now) }
-    ensures read { IsReadableScript script.now → IfOk result (λ text. reading_of text.items ≡ Ok script.now) }
+    ensures read { IsReadableScript script.now →
+        IfOk result (λ text. reading_of text.items ≡ Ok script.now) }
 {
     match script_bytes(alloc, script) {
         Ok(text) => Ok(text),

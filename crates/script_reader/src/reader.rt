@@ -56,7 +56,13 @@ impl<'a> Model for Reader<'a> {
 
     ghost Value = { State };
 
-    ghost view = { λ r. record { place = r.place; shapes = r.shapes.items; boot = r.boot; lanes = r.lanes.items; section = r.section } };
+    ghost view = { λ r. record {
+      place = r.place;
+      shapes = r.shapes.items;
+      boot = r.boot;
+      lanes = r.lanes.items;
+      section = r.section;
+    } };
 }
 
 fn is_head(words: &Words<'_>) -> bool
@@ -110,7 +116,8 @@ impl<'a> Reader<'a> {
         requires sound { IsSound self.old }
         ensures value { Moves result self.new (spec.head_step self.old words.now) }
         ensures sound { OnOk result (IsSound self.new) }
-        ensures grown { OnOk result (length self.new.section.commands ≤ length self.old.section.commands + 1) }
+        ensures grown { OnOk result (length self.new.section.commands ≤
+            length self.old.section.commands + 1) }
     {
         if !is_head(words) {
             return Err(StepError::Code(NO_HEAD));
@@ -126,7 +133,8 @@ impl<'a> Reader<'a> {
         requires sound { IsSound self.old }
         ensures value { Moves result self.new (spec.unit_step self.old words.now) }
         ensures sound { OnOk result (IsSound self.new) }
-        ensures grown { OnOk result (length self.new.section.commands ≤ length self.old.section.commands + 1) }
+        ensures grown { OnOk result (length self.new.section.commands ≤
+            length self.old.section.commands + 1) }
     {
         let shape = unit_shape(words)?;
         self.shapes.push(shape)?;
@@ -140,7 +148,8 @@ impl<'a> Reader<'a> {
         requires sound { IsSound self.old }
         ensures value { Moves result self.new (spec.boot_step self.old words.now) }
         ensures sound { OnOk result (IsSound self.new) }
-        ensures grown { OnOk result (length self.new.section.commands ≤ length self.old.section.commands + 1) }
+        ensures grown { OnOk result (length self.new.section.commands ≤
+            length self.old.section.commands + 1) }
     {
         if words.len() != 1 {
             return Err(StepError::Code(MISSHAPEN));
@@ -165,9 +174,11 @@ impl<'a> Reader<'a> {
         requires room { length self.old.section.commands ≤ 4194304 }
         requires next { MayFollow next self.old }
         requires sound { IsSound self.old }
-        ensures value { Moves result self.new (Ok (record (spec.closed self.old.place self.old) { place = next })) }
+        ensures value { Moves result self.new
+            (Ok (record (spec.closed self.old.place self.old) { place = next })) }
         ensures sound { OnOk result (IsSound self.new) }
-        ensures grown { OnOk result (length self.new.section.commands ≤ length self.old.section.commands + 1) }
+        ensures grown { OnOk result (length self.new.section.commands ≤
+            length self.old.section.commands + 1) }
     {
         let section = mem::replace(&mut self.section, OpenSection::new(alloc));
         let whole = section.close();
@@ -186,7 +197,8 @@ impl<'a> Reader<'a> {
         requires sound { IsSound self.old }
         ensures value { Moves result self.new (spec.end_step self.old words.now) }
         ensures sound { OnOk result (IsSound self.new) }
-        ensures grown { OnOk result (length self.new.section.commands ≤ length self.old.section.commands + 1) }
+        ensures grown { OnOk result (length self.new.section.commands ≤
+            length self.old.section.commands + 1) }
     {
         if words.len() != 1 {
             return Err(StepError::Code(MISSHAPEN));
@@ -201,7 +213,8 @@ impl<'a> Reader<'a> {
         requires sound { IsSound self.old }
         ensures value { Moves result self.new (spec.lane_step self.old words.now) }
         ensures sound { OnOk result (IsSound self.new) }
-        ensures grown { OnOk result (length self.new.section.commands ≤ length self.old.section.commands + 1) }
+        ensures grown { OnOk result (length self.new.section.commands ≤
+            length self.old.section.commands + 1) }
     {
         let next = self.next_lane();
         if 16 < next || is_other(next, words.word(1)) {
@@ -221,7 +234,8 @@ impl<'a> Reader<'a> {
         requires sound { IsSound self.old }
         ensures value { Moves result self.new (spec.submit_step self.old words.now) }
         ensures sound { OnOk result (IsSound self.new) }
-        ensures grown { OnOk result (length self.new.section.commands ≤ length self.old.section.commands + 1) }
+        ensures grown { OnOk result (length self.new.section.commands ≤
+            length self.old.section.commands + 1) }
     {
         let slot = self.section.names().len() as u32;
         let command = submit(self.shapes.len() as u8, slot, words)?;
@@ -236,7 +250,8 @@ impl<'a> Reader<'a> {
         requires write { is_word_at words.now 0 (codes "w") ≡ true }
         ensures value { Moves result self.new (spec.command_step self.old words.now) }
         ensures sound { OnOk result (IsSound self.new) }
-        ensures grown { OnOk result (length self.new.section.commands ≤ length self.old.section.commands + 1) }
+        ensures grown { OnOk result (length self.new.section.commands ≤
+            length self.old.section.commands + 1) }
     {
         let command = write(self.shapes.len() as u8, words)?;
         self.section.push(command)
@@ -249,7 +264,8 @@ impl<'a> Reader<'a> {
         requires other { is_word_at words.now 0 (codes "w") ≡ false }
         ensures value { Moves result self.new (spec.command_step self.old words.now) }
         ensures sound { OnOk result (IsSound self.new) }
-        ensures grown { OnOk result (length self.new.section.commands ≤ length self.old.section.commands + 1) }
+        ensures grown { OnOk result (length self.new.section.commands ≤
+            length self.old.section.commands + 1) }
     {
         let command = command(self.shapes.len() as u8, self.section.names(), words)?;
         self.section.push(command)
@@ -261,7 +277,8 @@ impl<'a> Reader<'a> {
         requires sound { IsSound self.old }
         ensures value { Moves result self.new (spec.units_step self.old words.now) }
         ensures sound { OnOk result (IsSound self.new) }
-        ensures grown { OnOk result (length self.new.section.commands ≤ length self.old.section.commands + 1) }
+        ensures grown { OnOk result (length self.new.section.commands ≤
+            length self.old.section.commands + 1) }
     {
         if words.is_word(0, b"unit") && self.shapes.len() < 4 {
             self.unit_line(words)
@@ -279,7 +296,8 @@ impl<'a> Reader<'a> {
         requires sound { IsSound self.old }
         ensures value { Moves result self.new (spec.section_step self.old words.now) }
         ensures sound { OnOk result (IsSound self.new) }
-        ensures grown { OnOk result (length self.new.section.commands ≤ length self.old.section.commands + 1) }
+        ensures grown { OnOk result (length self.new.section.commands ≤
+            length self.old.section.commands + 1) }
     {
         if words.is_word(0, b"lane") {
             self.lane_line(alloc, words)
@@ -299,7 +317,8 @@ impl<'a> Reader<'a> {
         requires sound { IsSound self.old }
         ensures value { Moves result self.new (spec.place_step self.old.place self.old words.now) }
         ensures sound { OnOk result (IsSound self.new) }
-        ensures grown { OnOk result (length self.new.section.commands ≤ length self.old.section.commands + 1) }
+        ensures grown { OnOk result (length self.new.section.commands ≤
+            length self.old.section.commands + 1) }
     {
         match self.place {
             ScriptPart::Head => self.head_line(words),
@@ -315,7 +334,8 @@ impl<'a> Reader<'a> {
         requires sound { IsSound self.old }
         ensures value { Moves result self.new (spec.words_step self.old words.now) }
         ensures sound { OnOk result (IsSound self.new) }
-        ensures grown { OnOk result (length self.new.section.commands ≤ length self.old.section.commands + 1) }
+        ensures grown { OnOk result (length self.new.section.commands ≤
+            length self.old.section.commands + 1) }
     {
         if is_skipped(words) {
             return Ok(());
@@ -339,7 +359,8 @@ impl<'a> Reader<'a> {
         requires plain { plain ≡ true → IsPlainLine line.now }
         ensures value { Moves result self.new (spec.line_step of self.old line.now) }
         ensures sound { OnOk result (IsSound self.new) }
-        ensures grown { OnOk result (length self.new.section.commands ≤ length self.old.section.commands + 1) }
+        ensures grown { OnOk result (length self.new.section.commands ≤
+            length self.old.section.commands + 1) }
     {
         if !text::is_plain_line(line, plain) {
             return Err(StepError::Code(NOT_PLAIN));

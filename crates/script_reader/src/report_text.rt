@@ -25,7 +25,11 @@ impl<'a> Model for ReportText<'a> {
 
     ghost Value = { ReportTextOf };
 
-    ghost view = { λ t. record { script = t.script.now; heading = t.heading; report = t.report.now } };
+    ghost view = { λ t. record {
+      script = t.script.now;
+      heading = t.heading;
+      report = t.report.now;
+    } };
 }
 
 /// The length of a first line that ends at a place, with its line feed, which the last one may lack.

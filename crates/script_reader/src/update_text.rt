@@ -48,7 +48,13 @@ impl Model for UpdateText {
 
     ghost Value = { UpdateTextOf };
 
-    ghost view = { λ t. record { old = t.old.items; new = t.new.items; polls = t.polls; lanes = t.lanes.items; first_line = t.first_line } };
+    ghost view = { λ t. record {
+      old = t.old.items;
+      new = t.new.items;
+      polls = t.polls;
+      lanes = t.lanes.items;
+      first_line = t.first_line;
+    } };
 }
 
 /// What the lines so far gave, and which heading is wanted next.

@@ -17,11 +17,15 @@ use event_words::{Access, Command, Event, Stages};
 
 /// Up to `tries` judgements of an open slot.
 pub(crate) fn judging(slot: u32, event: Event, tries: u32) -> Ahead
-    ensures rest { (caller : ℕ) (cs : List Commands) (slots : List (Option records.OpenSlot)) (xs : List LoggedEvent) →
-        end_of_rest caller cs slots result xs ≡ after_piece (end_of_commands caller cs) (settled slots slot (judgements tries event xs)) }
+    ensures rest { (caller : ℕ) (cs : List Commands) (slots : List (Option records.OpenSlot))
+        (xs : List LoggedEvent) →
+        end_of_rest caller cs slots result xs
+        ≡ after_piece (end_of_commands caller cs)
+        (settled slots slot (judgements tries event xs)) }
     ensures none { submits result ≡ 0 }
     ensures tries { AheadHasTries result }
-    ensures valid { (who : ℕ) → caller_of event ≡ who → IsValidEvent event → IsValidAhead who result }
+    ensures valid { (who : ℕ) → caller_of event ≡ who → IsValidEvent event →
+        IsValidAhead who result }
 {
     if tries == 0 {
         return Ahead::Broken;
@@ -37,11 +41,15 @@ pub(crate) fn judging(slot: u32, event: Event, tries: u32) -> Ahead
 
 /// Up to `tries` reads until one hits.
 pub(crate) fn polling(event: Event, mask: u32, value: u32, tries: u32) -> Ahead
-    ensures rest { (caller : ℕ) (cs : List Commands) (slots : List (Option records.OpenSlot)) (xs : List LoggedEvent) →
-        end_of_rest caller cs slots result xs ≡ after_piece (end_of_commands caller cs) (until_piece slots (polls tries event mask value xs)) }
+    ensures rest { (caller : ℕ) (cs : List Commands) (slots : List (Option records.OpenSlot))
+        (xs : List LoggedEvent) →
+        end_of_rest caller cs slots result xs
+        ≡ after_piece (end_of_commands caller cs)
+        (until_piece slots (polls tries event mask value xs)) }
     ensures none { submits result ≡ 0 }
     ensures tries { AheadHasTries result }
-    ensures valid { (who : ℕ) → caller_of event ≡ who → IsValidEvent event → IsValidAhead who result }
+    ensures valid { (who : ℕ) → caller_of event ≡ who → IsValidEvent event →
+        IsValidAhead who result }
 {
     if tries == 0 {
         return Ahead::Broken;
@@ -58,11 +66,16 @@ pub(crate) fn polling(event: Event, mask: u32, value: u32, tries: u32) -> Ahead
 
 /// Up to `tries` judgements of a stage's submission, and the stages after it.
 pub(crate) fn stage_judging(event: Event, tries: u32, chain: Chain) -> Ahead
-    ensures rest { (caller : ℕ) (cs : List Commands) (slots : List (Option records.OpenSlot)) (xs : List LoggedEvent) →
-        end_of_rest caller cs slots result xs ≡ after_piece (end_of_commands caller cs) (through_piece slots (stage_judged (stages_on caller chain) (judgements tries event xs))) }
+    ensures rest { (caller : ℕ) (cs : List Commands) (slots : List (Option records.OpenSlot))
+        (xs : List LoggedEvent) →
+        end_of_rest caller cs slots result xs
+        ≡ after_piece (end_of_commands caller cs)
+        (through_piece slots (stage_judged (stages_on caller chain)
+        (judgements tries event xs))) }
     ensures none { submits result ≡ 0 }
     ensures tries { 1 ≤ chain.max → AheadHasTries result }
-    ensures valid { (who : ℕ) → caller_of event ≡ who → IsValidEvent event → IsValidChain chain → IsValidAhead who result }
+    ensures valid { (who : ℕ) → caller_of event ≡ who → IsValidEvent event → IsValidChain chain →
+        IsValidAhead who result }
 {
     if tries == 0 {
         return Ahead::Broken;
@@ -135,11 +148,16 @@ pub(crate) fn wide_event(caller: u8, unit: u8, access: Access) -> Event
 /// The submission of a stage whose number is one less than the chain's, and the stages after it.
 fn stage(caller: u8, unit: u8, access: Access, chain: Chain) -> Ahead
     requires { access ≡ record chain.access { rrid = access.rrid } }
-    ensures rest { (cs : List Commands) (slots : List (Option records.OpenSlot)) (xs : List LoggedEvent) →
-        end_of_rest caller cs slots result xs ≡ after_piece (end_of_commands caller cs) (through_piece slots (records.one_stage caller chain.max unit access (stages_on caller chain) xs)) }
+    ensures rest { (cs : List Commands) (slots : List (Option records.OpenSlot))
+        (xs : List LoggedEvent) →
+        end_of_rest caller cs slots result xs
+        ≡ after_piece (end_of_commands caller cs)
+        (through_piece slots (records.one_stage caller chain.max unit access
+        (stages_on caller chain) xs)) }
     ensures none { submits result ≡ 0 }
     ensures tries { 1 ≤ chain.max → AheadHasTries result }
-    ensures valid { caller < 32 → unit < 4 → access.rrid ≤ 63 → IsValidChain chain → IsValidAhead caller result }
+    ensures valid { caller < 32 → unit < 4 → access.rrid ≤ 63 → IsValidChain chain →
+        IsValidAhead caller result }
 {
     if access.narrow() {
         return Ahead::Awaiting {
@@ -159,8 +177,11 @@ fn stage(caller: u8, unit: u8, access: Access, chain: Chain) -> Ahead
 
 /// Stages, the first of which bears this requester.
 pub(crate) fn passing(caller: u8, chain: Chain, rrid: u8) -> Ahead
-    ensures rest { (cs : List Commands) (slots : List (Option records.OpenSlot)) (xs : List LoggedEvent) →
-        end_of_rest caller cs slots result xs ≡ after_piece (end_of_commands caller cs) (through_piece slots (stages_on caller chain rrid xs)) }
+    ensures rest { (cs : List Commands) (slots : List (Option records.OpenSlot))
+        (xs : List LoggedEvent) →
+        end_of_rest caller cs slots result xs
+        ≡ after_piece (end_of_commands caller cs)
+        (through_piece slots (stages_on caller chain rrid xs)) }
     ensures none { submits result ≡ 0 }
     ensures tries { 1 ≤ chain.max → AheadHasTries result }
     ensures valid { caller < 32 → rrid ≤ 63 → IsValidChain chain → IsValidAhead caller result }
@@ -191,10 +212,13 @@ fn slot_of(slots: &[Option<OpenSlot>], slot: u32) -> Option<OpenSlot>
 /// Up to `tries` judgements of a slot, and none where it isn't open.
 fn settling(caller: u8, slots: &[Option<OpenSlot>], slot: u32, tries: u32) -> Ahead
     ensures rest { (cs : List Commands) (xs : List LoggedEvent) →
-        end_of_rest caller cs slots.now result xs ≡ after_piece (end_of_commands caller cs) (records.settle_piece caller tries slots.now slot (slot_of slots.now slot) xs) }
+        end_of_rest caller cs slots.now result xs
+        ≡ after_piece (end_of_commands caller cs)
+        (records.settle_piece caller tries slots.now slot (slot_of slots.now slot) xs) }
     ensures none { submits result ≡ 0 }
     ensures tries { AheadHasTries result }
-    ensures valid { caller < 32 → AllByRecursion IsValidSlot slots.now → IsValidAhead caller result }
+    ensures valid { caller < 32 → AllByRecursion IsValidSlot slots.now →
+        IsValidAhead caller result }
 {
     let Some(open) = slot_of(slots, slot) else {
         return Ahead::Between;
@@ -229,11 +253,15 @@ fn read_event(caller: u8, unit: u8, index: u32) -> Event
 }
 
 fn alone(event: Event) -> Ahead
-    ensures rest { (caller : ℕ) (cs : List Commands) (slots : List (Option records.OpenSlot)) (xs : List LoggedEvent) →
-        end_of_rest caller cs slots result xs ≡ after_piece (end_of_commands caller cs) (records.one_piece slots (records.take_event event xs)) }
+    ensures rest { (caller : ℕ) (cs : List Commands) (slots : List (Option records.OpenSlot))
+        (xs : List LoggedEvent) →
+        end_of_rest caller cs slots result xs
+        ≡ after_piece (end_of_commands caller cs)
+        (records.one_piece slots (records.take_event event xs)) }
     ensures none { submits result ≡ 0 }
     ensures tries { AheadHasTries result }
-    ensures valid { (who : ℕ) → caller_of event ≡ who → IsValidEvent event → IsValidAhead who result }
+    ensures valid { (who : ℕ) → caller_of event ≡ who → IsValidEvent event →
+        IsValidAhead who result }
 {
     Ahead::Awaiting {
         event,
@@ -242,11 +270,15 @@ fn alone(event: Event) -> Ahead
 }
 
 fn submitting(unit: u8, event: Event) -> Ahead
-    ensures rest { (caller : ℕ) (cs : List Commands) (slots : List (Option records.OpenSlot)) (xs : List LoggedEvent) →
-        end_of_rest caller cs slots result xs ≡ after_piece (end_of_commands caller cs) (records.submit_piece slots unit (records.take_event event xs)) }
+    ensures rest { (caller : ℕ) (cs : List Commands) (slots : List (Option records.OpenSlot))
+        (xs : List LoggedEvent) →
+        end_of_rest caller cs slots result xs
+        ≡ after_piece (end_of_commands caller cs)
+        (records.submit_piece slots unit (records.take_event event xs)) }
     ensures one { submits result ≡ 1 }
     ensures tries { AheadHasTries result }
-    ensures valid { (who : ℕ) → caller_of event ≡ who → IsValidEvent event → unit < 4 → IsValidAhead who result }
+    ensures valid { (who : ℕ) → caller_of event ≡ who → IsValidEvent event → unit < 4 →
+        IsValidAhead who result }
 {
     Ahead::Awaiting {
         event,
@@ -256,7 +288,8 @@ fn submitting(unit: u8, event: Event) -> Ahead
 
 /// The Aim of a submission, whose Wide follows.
 fn aiming(caller: u8, unit: u8, access: Access) -> Ahead
-    ensures rest { (cs : List Commands) (slots : List (Option records.OpenSlot)) (xs : List LoggedEvent) →
+    ensures rest { (cs : List Commands) (slots : List (Option records.OpenSlot))
+        (xs : List LoggedEvent) →
         end_of_rest caller cs slots result xs ≡ after_piece (end_of_commands caller cs)
         (records.submit_piece slots unit (records.take_event_after (records.wide_event unit caller access) (records.take_event (events.Aim caller access.addr) xs))) }
     ensures one { submits result ≡ 1 }
@@ -271,8 +304,11 @@ fn aiming(caller: u8, unit: u8, access: Access) -> Ahead
 
 /// A submission of one event or two.
 fn submitting_access(caller: u8, unit: u8, access: Access) -> Ahead
-    ensures rest { (cs : List Commands) (slots : List (Option records.OpenSlot)) (xs : List LoggedEvent) →
-        end_of_rest caller cs slots result xs ≡ after_piece (end_of_commands caller cs) (records.submit_piece slots unit (records.take_submission unit caller access xs)) }
+    ensures rest { (cs : List Commands) (slots : List (Option records.OpenSlot))
+        (xs : List LoggedEvent) →
+        end_of_rest caller cs slots result xs
+        ≡ after_piece (end_of_commands caller cs)
+        (records.submit_piece slots unit (records.take_submission unit caller access xs)) }
     ensures one { submits result ≡ 1 }
     ensures tries { AheadHasTries result }
     ensures valid { caller < 32 → unit < 4 → IsValidAccess access → IsValidAhead caller result }
@@ -285,10 +321,13 @@ fn submitting_access(caller: u8, unit: u8, access: Access) -> Ahead
 
 /// What a command begins with: `Between` where it makes no event.
 pub(crate) fn begun_with(caller: u8, command: &Command, slots: &[Option<OpenSlot>]) -> Ahead
-    ensures rest { (cs : List Commands) (xs : List LoggedEvent) → end_of_rest caller cs slots.now result xs ≡ end_of_commands caller (command.now ∷ cs) slots.now xs }
+    ensures rest { (cs : List Commands) (xs : List LoggedEvent) →
+        end_of_rest caller cs slots.now result xs
+        ≡ end_of_commands caller (command.now ∷ cs) slots.now xs }
     ensures submits { submits result ≡ (if is_submit command.now then 1 else 0) }
     ensures tries { HasTries command.now → AheadHasTries result }
-    ensures valid { caller < 32 → AllByRecursion IsValidSlot slots.now → IsPlayable command.now → IsValidAhead caller result }
+    ensures valid { caller < 32 → AllByRecursion IsValidSlot slots.now → IsPlayable command.now →
+        IsValidAhead caller result }
 {
     match *command {
         Command::Write { unit, index, value } => alone(write_event(caller, unit, index, value)),

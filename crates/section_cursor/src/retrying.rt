@@ -41,8 +41,10 @@ pub(crate) fn is_due(ahead: &Ahead, event: &Event) -> bool
 #[inline(always)]
 fn tried_again(part: &mut Part, logged: &LoggedEvent) -> bool
     ensures again { result ≡ is_tried_again part.old logged.now.reply }
-    ensures rest { result ≡ true → (caller : ℕ) (cs : List Command) (slots : List (Option records.OpenSlot)) (event : Events) (xs : List Logged) →
-        end_of_rest caller cs slots (Awaiting event part.new) xs ≡ end_after caller cs slots event part.old logged.now xs }
+    ensures rest { result ≡ true → (caller : ℕ) (cs : List Command)
+        (slots : List (Option records.OpenSlot)) (event : Events) (xs : List Logged) →
+        end_of_rest caller cs slots (Awaiting event part.new) xs
+        ≡ end_after caller cs slots event part.old logged.now xs }
     ensures same { result ≡ false → part.new ≡ part.old }
     ensures submits { part_submits part.new ≡ part_submits part.old }
     ensures tries { PartHasTries part.old → PartHasTries part.new }
@@ -63,8 +65,10 @@ fn tried_again(part: &mut Part, logged: &LoggedEvent) -> bool
 pub(crate) fn due_again(ahead: &mut Ahead, logged: &LoggedEvent) -> bool
     requires due { is_due ahead.old logged.now.event ≡ true }
     ensures again { result ≡ is_due_again ahead.old logged.now.reply }
-    ensures rest { result ≡ true → (caller : ℕ) (cs : List Command) (slots : List (Option records.OpenSlot)) (xs : List Logged) →
-        end_of_rest caller cs slots ahead.new xs ≡ end_of_rest caller cs slots ahead.old (logged.now ∷ xs) }
+    ensures rest { result ≡ true → (caller : ℕ) (cs : List Command)
+        (slots : List (Option records.OpenSlot)) (xs : List Logged) →
+        end_of_rest caller cs slots ahead.new xs
+        ≡ end_of_rest caller cs slots ahead.old (logged.now ∷ xs) }
     ensures same { result ≡ false → ahead.new ≡ ahead.old }
     ensures settled { IsSettled ahead.old → IsSettled ahead.new }
     ensures submits { submits ahead.new ≡ submits ahead.old }

@@ -41,8 +41,11 @@ fn close(reply: &Reply, slot: u32, slots: &mut [Option<OpenSlot>])
 
 /// After the last read of those that are repeated until one hits.
 fn after_polls(mask: u32, value: u32, logged: &LoggedEvent) -> Ahead
-    ensures rest { (caller : ℕ) (cs : List Command) (slots : List (Option records.OpenSlot)) (xs : List Logged) →
-        end_of_rest caller cs slots result xs ≡ after_piece (end_of_commands caller cs) (until_piece slots (Some (hits mask value logged.now.reply, xs))) }
+    ensures rest { (caller : ℕ) (cs : List Command) (slots : List (Option records.OpenSlot))
+        (xs : List Logged) →
+        end_of_rest caller cs slots result xs
+        ≡ after_piece (end_of_commands caller cs)
+        (until_piece slots (Some (hits mask value logged.now.reply, xs))) }
     ensures none { submits result ≡ 0 }
     ensures tries { AheadHasTries result }
     ensures valid { (who : ℕ) → IsValidAhead who result }
@@ -57,8 +60,10 @@ fn after_polls(mask: u32, value: u32, logged: &LoggedEvent) -> Ahead
 
 /// After the Aim of a submission: its Wide follows, whatever the reply was.
 fn after_aim(caller: u8, unit: u8, access: Access) -> Ahead
-    ensures rest { (event : Events) (cs : List Command) (slots : List (Option records.OpenSlot)) (x : Logged) (xs : List Logged) →
-        end_of_rest caller cs slots result xs ≡ end_after caller cs slots event (parts.Aiming unit access) x xs }
+    ensures rest { (event : Events) (cs : List Command) (slots : List (Option records.OpenSlot))
+        (x : Logged) (xs : List Logged) →
+        end_of_rest caller cs slots result xs
+        ≡ end_after caller cs slots event (parts.Aiming unit access) x xs }
     ensures one { submits result ≡ 1 }
     ensures tries { AheadHasTries result }
     ensures valid { caller < 32 → unit < 4 → IsValidAccess access → IsValidAhead caller result }
@@ -71,11 +76,14 @@ fn after_aim(caller: u8, unit: u8, access: Access) -> Ahead
 
 /// After the Aim of a stage's submission by this requester: its Wide follows where the Aim is replied so.
 fn after_stage_aim(caller: u8, unit: u8, rrid: u8, chain: Chain, logged: &LoggedEvent) -> Ahead
-    ensures rest { (event : Events) (cs : List Command) (slots : List (Option records.OpenSlot)) (xs : List Logged) →
-        end_of_rest caller cs slots result xs ≡ end_after caller cs slots event (parts.StageAiming unit rrid chain) logged.now xs }
+    ensures rest { (event : Events) (cs : List Command) (slots : List (Option records.OpenSlot))
+        (xs : List Logged) →
+        end_of_rest caller cs slots result xs
+        ≡ end_after caller cs slots event (parts.StageAiming unit rrid chain) logged.now xs }
     ensures none { submits result ≡ 0 }
     ensures tries { 1 ≤ chain.max → AheadHasTries result }
-    ensures valid { caller < 32 → unit < 4 → rrid ≤ 63 → IsValidChain chain → IsValidAhead caller result }
+    ensures valid { caller < 32 → unit < 4 → rrid ≤ 63 → IsValidChain chain →
+        IsValidAhead caller result }
 {
     if !is_aimed(&logged.reply) {
         return Ahead::Between;
@@ -92,11 +100,14 @@ fn after_stage_aim(caller: u8, unit: u8, rrid: u8, chain: Chain, logged: &Logged
 
 /// After the last event of a stage's submission.
 fn after_stage(caller: u8, unit: u8, chain: Chain, logged: &LoggedEvent) -> Ahead
-    ensures rest { (event : Events) (cs : List Command) (slots : List (Option records.OpenSlot)) (xs : List Logged) →
-        end_of_rest caller cs slots result xs ≡ end_after caller cs slots event (parts.Stage unit chain) logged.now xs }
+    ensures rest { (event : Events) (cs : List Command) (slots : List (Option records.OpenSlot))
+        (xs : List Logged) →
+        end_of_rest caller cs slots result xs
+        ≡ end_after caller cs slots event (parts.Stage unit chain) logged.now xs }
     ensures none { submits result ≡ 0 }
     ensures tries { 1 ≤ chain.max → AheadHasTries result }
-    ensures valid { caller < 32 → unit < 4 → logged.now.place < 2 ^ 24 → IsValidChain chain → IsValidAhead caller result }
+    ensures valid { caller < 32 → unit < 4 → logged.now.place < 2 ^ 24 → IsValidChain chain →
+        IsValidAhead caller result }
 {
     if !is_taken(&logged.reply) {
         return Ahead::Between;
@@ -112,7 +123,10 @@ fn after_stage(caller: u8, unit: u8, chain: Chain, logged: &LoggedEvent) -> Ahea
 /// After the last judgement of a stage's submission.
 fn after_stage_judgements(caller: u8, chain: Chain, logged: &LoggedEvent) -> Ahead
     ensures rest { (cs : List Command) (slots : List (Option records.OpenSlot)) (xs : List Logged) →
-        end_of_rest caller cs slots result xs ≡ after_piece (end_of_commands caller cs) (through_piece slots (stage_judged (stages_on caller chain) (Some (logged.now.reply, xs)))) }
+        end_of_rest caller cs slots result xs
+        ≡ after_piece (end_of_commands caller cs)
+        (through_piece slots (stage_judged (stages_on caller chain)
+        (Some (logged.now.reply, xs)))) }
     ensures none { submits result ≡ 0 }
     ensures tries { 1 ≤ chain.max → AheadHasTries result }
     ensures valid { caller < 32 → IsValidChain chain → IsValidAhead caller result }
@@ -134,12 +148,16 @@ pub(crate) fn ends_command(
     requires last { is_tried_again part.now logged.now.reply ≡ false }
     requires room { vec_len slots.old + part_submits part.now ≤ vec_capacity slots.old }
     ensures ends { result ≡ ends_command part.now }
-    ensures rest { ends_command part.now ≡ true → (caller : ℕ) (event : Events) (cs : List Command) (xs : List Logged) →
-        end_of_commands caller cs slots.new.items xs ≡ end_after caller cs slots.old.items event part.now logged.now xs }
-    ensures count { ends_command part.now ≡ true → vec_len slots.new ≡ vec_len slots.old + part_submits part.now }
+    ensures rest { ends_command part.now ≡ true →
+        (caller : ℕ) (event : Events) (cs : List Command) (xs : List Logged) →
+        end_of_commands caller cs slots.new.items xs
+        ≡ end_after caller cs slots.old.items event part.now logged.now xs }
+    ensures count { ends_command part.now ≡ true → vec_len slots.new
+        ≡ vec_len slots.old + part_submits part.now }
     ensures same { ends_command part.now ≡ false → slots.new ≡ slots.old }
     ensures capacity { vec_capacity slots.new ≡ vec_capacity slots.old }
-    ensures slots { logged.now.place < 2 ^ 24 → IsValidPart part.now → AllByRecursion IsValidSlot slots.old.items → AllByRecursion IsValidSlot slots.new.items }
+    ensures slots { logged.now.place < 2 ^ 24 → IsValidPart part.now →
+        AllByRecursion IsValidSlot slots.old.items → AllByRecursion IsValidSlot slots.new.items }
 {
     match *part {
         Part::Alone => true,
@@ -159,11 +177,14 @@ pub(crate) fn ends_command(
 pub(crate) fn ahead_after(caller: u8, part: &Part, logged: &LoggedEvent) -> Ahead
     requires last { is_tried_again part.now logged.now.reply ≡ false }
     requires goes_on { ends_command part.now ≡ false }
-    ensures rest { (event : Events) (cs : List Command) (slots : List (Option records.OpenSlot)) (xs : List Logged) →
-        end_of_rest caller cs slots result xs ≡ end_after caller cs slots event part.now logged.now xs }
+    ensures rest { (event : Events) (cs : List Command) (slots : List (Option records.OpenSlot))
+        (xs : List Logged) →
+        end_of_rest caller cs slots result xs
+        ≡ end_after caller cs slots event part.now logged.now xs }
     ensures tries { PartHasTries part.now → AheadHasTries result }
     ensures count { submits result ≡ part_submits part.now }
-    ensures valid { caller < 32 → logged.now.place < 2 ^ 24 → IsValidPart part.now → IsValidAhead caller result }
+    ensures valid { caller < 32 → logged.now.place < 2 ^ 24 → IsValidPart part.now →
+        IsValidAhead caller result }
 {
     match *part {
         Part::Aiming { unit, access } => after_aim(caller, unit, access),

@@ -33,9 +33,12 @@ impl<M: Machine> Model for Caller<M> {
 
     ghost Value = { CallerView M M.State };
 
-    ghost view = { λ c. caller_view c.seat.table_id c.seat.me.0 c.left c.machine (M.state c.first.value) };
+    ghost view = { λ c. caller_view c.seat.table_id c.seat.me.0 c.left c.machine
+        (M.state c.first.value) };
 
-    ghost invariant = { λ c. (c.seat.me.1 ≡ []) × HasCallerFields M.state M.next_place M.places M.after c.seat.table_id.words c.seat.me.0 c.number c.place c.left c.budget c.made c.machine (M.state c.first.value) };
+    ghost invariant = { λ c. (c.seat.me.1 ≡ [])
+        × HasCallerFields M.state M.next_place M.places M.after c.seat.table_id.words c.seat.me.0
+        c.number c.place c.left c.budget c.made c.machine (M.state c.first.value) };
 }
 
 impl<M: Machine> Caller<M> {

@@ -58,11 +58,14 @@ fn gather(closed: &Closed<(), Global>, room: &mut Vec<u64>)
 pub fn close<M: Machine>(shared: Shared, first: Caller<M>, rest: Vec<Caller<M>>) -> History
     requires belongs { Belongs first shared }
     requires number { first.number ≡ 0 }
-    requires rest { (k : ℕ) (d : _) → k < vec_len rest → Belongs (slice_index_or rest.items k d) shared × ((slice_index_or rest.items k d).number ≡ k + 1) }
+    requires rest { (k : ℕ) (d : _) → k < vec_len rest →
+        Belongs (slice_index_or rest.items k d) shared
+        × ((slice_index_or rest.items k d).number ≡ k + 1) }
     requires all { first.made ≡ vec_len rest + 1 }
     ensures events { AllEventWords result }
     ensures first { HoldsCaller result first }
-    ensures rest { (k : ℕ) (d : _) → k < vec_len rest → HoldsCaller result (slice_index_or rest.items k d) }
+    ensures rest { (k : ℕ) (d : _) → k < vec_len rest →
+        HoldsCaller result (slice_index_or rest.items k d) }
     ensures others { (c : ℕ) → vec_len rest < c → words_by c result ≡ [] }
 {
     let Caller { mut seat, .. } = first;

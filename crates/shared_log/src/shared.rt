@@ -34,9 +34,17 @@ impl Model for Shared {
 
     ghost Value = { SharedView };
 
-    ghost view = { λ s. record { table = s.table.shared.table_id; callers = s.callers; budget = s.budget } };
+    ghost view = { λ s. record {
+      table = s.table.shared.table_id;
+      callers = s.callers;
+      budget = s.budget;
+    } };
 
-    ghost invariant = { λ s. (s.table.shared.key.callers ≡ s.callers) × (s.table.shared.key.budget ≡ s.budget) × (s.table.shared.table_id.words ≡ s.callers * s.budget) × (s.callers * s.budget ≤ 1048576) × (vec_len s.room ≡ s.callers * s.budget) × (s.callers ≤ 32) × (0 < s.table.shared.table_id.words) × (s.table.shared.table_id.slots ≡ 0) };
+    ghost invariant = { λ s. (s.table.shared.key.callers ≡ s.callers)
+        × (s.table.shared.key.budget ≡ s.budget)
+        × (s.table.shared.table_id.words ≡ s.callers * s.budget) × (s.callers * s.budget ≤ 1048576)
+        × (vec_len s.room ≡ s.callers * s.budget) × (s.callers ≤ 32)
+        × (0 < s.table.shared.table_id.words) × (s.table.shared.table_id.slots ≡ 0) };
 }
 
 impl Shared {
@@ -50,11 +58,13 @@ impl Shared {
         first: M,
     ) -> Result<(Shared, Caller<M>), NoMemory>
         requires callers { (1 ≤ callers) × (callers ≤ 32) }
-        requires budget { (1 ≤ budget) × (callers * budget ≤ 1048576) × (callers * budget ≤ M.places first) }
+        requires budget { (1 ≤ budget) × (callers * budget ≤ 1048576)
+            × (callers * budget ≤ M.places first) }
         requires machine { M.next_place first ≡ 0 }
         ensures shared { IfOk result (λ r. (r.0.callers ≡ callers) × (r.0.budget ≡ budget)) }
         ensures belongs { IfOk result (λ r. Belongs r.1 r.0) }
-        ensures first { IfOk result (λ r. (r.1.number ≡ 0) × (r.1.log ≡ []) × (r.1.left ≡ budget) × (r.1.made ≡ 1)) }
+        ensures first { IfOk result (λ r. (r.1.number ≡ 0) × (r.1.log ≡ []) × (r.1.left ≡ budget) ×
+            (r.1.made ≡ 1)) }
         ensures machine { IfOk result (λ r. (r.1.machine ≡ first) × (r.1.first ≡ M.state first)) }
         ensures caller { IfOk result (λ r. IsCaller M.state M.next_place M.places M.after r.1) }
     {
@@ -93,7 +103,8 @@ impl Shared {
 // The machine, once it took the words of the seat's log, which are loaded again.
 fn bring_up<M: Machine>(shared: &Shared, seat: &mut Seat<(), SeatView>, end: u32, fresh: M) -> M
     requires seat { (seat.old.table_id ≡ shared.now.table) × (seat.old.me.0.live ≡ true) }
-    requires end { (end ≡ length seat.old.me.0.log) × (end ≤ shared.now.callers * shared.now.budget) }
+    requires end { (end ≡ length seat.old.me.0.log)
+        × (end ≤ shared.now.callers * shared.now.budget) }
     requires machine { (M.next_place fresh ≡ 0) × (end ≤ M.places fresh) }
     ensures seat { (seat.new.table_id ≡ seat.old.table_id) × (seat.new.me ≡ seat.old.me) }
     ensures state { M.state result ≡ run M.after (M.state fresh) seat.old.me.0.log }
@@ -116,7 +127,8 @@ pub fn split<M: Machine>(shared: &Shared, first: &mut Caller<M>, fresh: M) -> Ca
     requires number { first.old.number ≡ 0 }
     requires made { first.old.made < shared.now.callers }
     requires state { M.state fresh ≡ first.old.first }
-    requires machine { (M.next_place fresh ≡ 0) × (shared.now.callers * shared.now.budget ≤ M.places fresh) }
+    requires machine { (M.next_place fresh ≡ 0)
+        × (shared.now.callers * shared.now.budget ≤ M.places fresh) }
     ensures first { first.new ≡ record first.old { made = first.old.made + 1 } }
     ensures belongs { Belongs result shared.now }
     ensures number { result.number ≡ first.old.made }

@@ -67,9 +67,12 @@ fn split_all(
 ) -> Result<Vec<Caller<Adder>>, AllocError>
     requires belongs { Belongs first.old shared.now }
     requires number { (first.old.number ≡ 0) × (first.old.made ≡ 1) × (first.old.first ≡ 0) }
-    requires size { (shared.now.callers ≡ 9) × (shared.now.budget ≡ 4000) × (first.old.machine.places ≡ 36000) }
-    ensures first { OnOk result (Belongs first.new shared.now × (first.new.number ≡ 0) × (first.new.made ≡ 9)) }
-    ensures rest { IfOk result (λ r. (vec_len r ≡ 8) × AreCallers shared.now r.items × HaveLeft 4000 r.items) }
+    requires size { (shared.now.callers ≡ 9) × (shared.now.budget ≡ 4000)
+        × (first.old.machine.places ≡ 36000) }
+    ensures first { OnOk result (Belongs first.new shared.now × (first.new.number ≡ 0) ×
+        (first.new.made ≡ 9)) }
+    ensures rest { IfOk result (λ r. (vec_len r ≡ 8) × AreCallers shared.now r.items × HaveLeft 4000
+        r.items) }
 {
     let mut rest = Vec::with_capacity(alloc, THREADS)?;
     for _ in 0..THREADS {

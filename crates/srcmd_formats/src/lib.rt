@@ -49,7 +49,8 @@ fn write_permits(regs: &Regs, rrid: u32) -> u64
 fn permissions(regs: &Regs, domain: u32) -> u64
     requires { domain < 64 }
     ensures first { (s : ℕ) → has_bit result (2 * s) ≡ has_first_permission regs.now s domain }
-    ensures second { (s : ℕ) → has_bit result (2 * s + 1) ≡ has_second_permission regs.now s domain }
+    ensures second { (s : ℕ) → has_bit result (2 * s + 1)
+        ≡ has_second_permission regs.now s domain }
 {
     regs.pair(Register::SrcmdPerm(domain))
 }
@@ -71,7 +72,8 @@ fn is_permitted(regs: &Regs, rrid: u32, domain: u32) -> bool
 fn by_permissions(regs: &Regs, rrid: u32) -> u64
     requires format { regs.now.shape.srcmd ≡ 2 }
     requires rrid { rrid < regs.now.shape.rrids }
-    ensures { (m : ℕ) → has_bit result m ≡ (nat_lt m regs.now.shape.domains && is_in_table regs.now rrid m) }
+    ensures { (m : ℕ) → has_bit result m ≡ (nat_lt m regs.now.shape.domains && is_in_table regs.now
+        rrid m) }
 {
     let mut mask = 0u64;
     let shape = regs.shape();
@@ -167,7 +169,8 @@ fn by_kind(kind: Kind, read: bool, write: bool) -> bool
 fn by_permission(regs: &Regs, rrid: u32, domain: u32, kind: Kind) -> bool
     requires rrid { rrid < 32 }
     requires domain { domain < 63 }
-    ensures { result ≡ by_kind kind (has_first_permission regs.now rrid domain) (has_second_permission regs.now rrid domain) }
+    ensures { result ≡ by_kind kind (has_first_permission regs.now rrid domain)
+        (has_second_permission regs.now rrid domain) }
 {
     let permissions = permissions(regs, domain);
     by_kind(
@@ -182,7 +185,8 @@ fn by_permission(regs: &Regs, rrid: u32, domain: u32, kind: Kind) -> bool
 fn by_secondary(regs: &Regs, rrid: u32, domain: u32, kind: Kind) -> bool
     requires rrid { rrid < 64 }
     requires domain { domain < 63 }
-    ensures { result ≡ by_kind kind (is_readable_in regs.now rrid domain) (is_writable_in regs.now rrid domain) }
+    ensures { result ≡ by_kind kind (is_readable_in regs.now rrid domain)
+        (is_writable_in regs.now rrid domain) }
 {
     let read = read_permits(regs, rrid);
     let write = write_permits(regs, rrid);

@@ -35,7 +35,8 @@ impl Model for StallState {
 
     ghost view = { λ s. record { flags = take s.rrids s.flags; counts = take s.rrids s.counts } };
 
-    ghost invariant = { λ s. (s.rrids ≤ 64) × (s.draining ≡ busy_count (take s.rrids s.flags) (take s.rrids s.counts)) };
+    ghost invariant = { λ s. (s.rrids ≤ 64) ×
+        (s.draining ≡ busy_count (take s.rrids s.flags) (take s.rrids s.counts)) };
 }
 
 /// The domains that a write of MDSTALL selects, as a mask that has bit m for domain m: up to 30 by bit

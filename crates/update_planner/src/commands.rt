@@ -25,7 +25,8 @@ fn write(index: u32, value: u32) -> Command
 
 /// Writes the stall register: 1 to stall all requesters, 0 to release them.
 fn stall(commands: &mut Vec<Command>, value: u32) -> Result<(), AllocError>
-    ensures { IfOk result (λ _. commands.new.items ≡ commands.old.items ++ Command.Write 0 (index_of Mdstall) value ∷ []) }
+    ensures { IfOk result (λ _. commands.new.items ≡ commands.old.items ++ Command.Write 0
+        (index_of Mdstall) value ∷ []) }
 {
     commands.push(write(Register::Mdstall.index(), value))?;
     Ok(())
@@ -33,7 +34,8 @@ fn stall(commands: &mut Vec<Command>, value: u32) -> Result<(), AllocError>
 
 /// Polls the stall register until no stalled access is in flight.
 fn drain(commands: &mut Vec<Command>, polls: u32) -> Result<(), AllocError>
-    ensures { IfOk result (λ _. commands.new.items ≡ commands.old.items ++ Command.Until 0 (index_of Mdstall) 1 0 polls ∷ []) }
+    ensures { IfOk result (λ _. commands.new.items ≡ commands.old.items ++ Command.Until 0
+        (index_of Mdstall) 1 0 polls ∷ []) }
 {
     commands.push(Command::Until {
         unit: 0,
@@ -47,7 +49,8 @@ fn drain(commands: &mut Vec<Command>, polls: u32) -> Result<(), AllocError>
 
 /// Makes writes of registers, in order.
 fn write_all(commands: &mut Vec<Command>, writes: &[RegPair]) -> Result<(), AllocError>
-    ensures { IfOk result (λ _. commands.new.items ≡ commands.old.items ++ map write_command writes.now) }
+    ensures { IfOk result (λ _. commands.new.items ≡ commands.old.items ++ map write_command
+        writes.now) }
 {
     for pair in writes {
         commands.push(write(pair.index, pair.value))?;
@@ -87,7 +90,8 @@ pub fn rewrite(
     writes: &[RegPair],
     polls: u32,
 ) -> Result<(), AllocError>
-    ensures { IfOk result (λ _. commands.new.items ≡ commands.old.items ++ rewriting (map write_command writes.now) polls) }
+    ensures { IfOk result (λ _. commands.new.items ≡ commands.old.items ++ rewriting
+        (map write_command writes.now) polls) }
 {
     drain(commands, polls)?;
     write_all(commands, writes)?;

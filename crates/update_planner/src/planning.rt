@@ -51,9 +51,11 @@ pub fn plan(alloc: Global, old: &Policy, new: &Policy, polls: u32) -> Result<Pla
     requires polls { IsMax polls }
     requires old { IsPolicy old.now }
     requires new { IsPolicy new.now }
-    ensures plan { Plans (plan_refusal old.now new.now) result (plan_commands (image_of old.now) (image_of new.now) polls) }
+    ensures plan { Plans (plan_refusal old.now new.now) result
+        (plan_commands (image_of old.now) (image_of new.now) polls) }
     ensures differ { SaysShapesDiffer result ↔ (old.now.shape ≡ new.now.shape → ⊥) }
-    ensures fits { IfOk result (λ p. (old.now.shape ≡ new.now.shape) × (need_refusal old.now ≡ None) × (need_refusal new.now ≡ None)) }
+    ensures fits { IfOk result (λ p. (old.now.shape ≡ new.now.shape) ×
+        (need_refusal old.now ≡ None) × (need_refusal new.now ≡ None)) }
     ensures valid { IfOk result (λ p. IsValidSection p.section) }
 {
     match plan_refusal(old, new) {

@@ -11,7 +11,8 @@ use std::collections::BTreeMap;
 
 /// Puts 0 for each register that is written.
 fn put_zeros(values: &mut BTreeMap<u32, u32>, writes: &[RegPair]) -> Result<(), AllocError>
-    ensures { IfOk result (λ _. (q : ℕ) → get nat_cmp values.new q ≡ zeros_over writes.now (get nat_cmp values.old q) q) }
+    ensures { IfOk result (λ _. (q : ℕ) → get nat_cmp values.new q ≡ zeros_over writes.now
+        (get nat_cmp values.old q) q) }
 {
     for write in writes {
         values.insert(write.index, 0)?;
@@ -21,7 +22,8 @@ fn put_zeros(values: &mut BTreeMap<u32, u32>, writes: &[RegPair]) -> Result<(), 
 
 /// Puts the value of each register that is written.
 fn put_values(values: &mut BTreeMap<u32, u32>, writes: &[RegPair]) -> Result<(), AllocError>
-    ensures { IfOk result (λ _. (q : ℕ) → get nat_cmp values.new q ≡ values_over writes.now (get nat_cmp values.old q) q) }
+    ensures { IfOk result (λ _. (q : ℕ) → get nat_cmp values.new q ≡ values_over writes.now
+        (get nat_cmp values.old q) q) }
 {
     for write in writes {
         values.insert(write.index, write.value)?;
@@ -35,7 +37,8 @@ pub fn rewritten_values(
     old: &Image,
     new: &Image,
 ) -> Result<BTreeMap<u32, u32>, AllocError>
-    ensures values { IfOk result (λ m. (q : ℕ) → get nat_cmp m q ≡ rewritten_value old.now.writes new.now.writes q) }
+    ensures values { IfOk result (λ m. (q : ℕ) → get nat_cmp m q ≡ rewritten_value old.now.writes
+        new.now.writes q) }
     ensures ordered { IfOk result (IsOrdered nat_cmp) }
 {
     let mut values = BTreeMap::new(alloc);

@@ -26,7 +26,8 @@ fn update_answer<R: Threads + Sync, G: Gate + Sync>(
 ) -> Result<Answer, NoAnswer>
     requires { IsReadable update.now }
     ensures { GivesOr
-        (λ a. ReportOf (λ history text. IsUpdateReport (Keeps which) (wanted_section which update.now) history text update.now)
+        (λ a. ReportOf (λ history text. IsUpdateReport (Keeps which)
+        (wanted_section which update.now) history text update.now)
         a.status a.history a.text.items)
         (IsUpdateLine (wanted_section which update.now) update.now) result }
 {

@@ -37,7 +37,13 @@ impl Model for Update {
 
     ghost Value = { UpdateOf };
 
-    ghost view = { λ u. record { old = u.old; new = u.new; polls = u.polls; lanes = u.lanes.items; first_line = u.first_line } };
+    ghost view = { λ u. record {
+      old = u.old;
+      new = u.new;
+      polls = u.polls;
+      lanes = u.lanes.items;
+      first_line = u.first_line;
+    } };
 }
 
 /// Which plan takes a unit from one policy to the other.

@@ -53,7 +53,8 @@ pub fn played<R: Threads + Sync, G: Gate + Sync>(
 ) -> Result<Answer, NoMemory>
     requires formed { IsWellFormedScript script.now }
     requires few { need_of script.now ≤ 1048576 }
-    ensures { IfOk result (λ a. ReportOf (IsRunOf which script.now) a.status a.history a.text.items) }
+    ensures { IfOk result (λ a. ReportOf (IsRunOf which script.now) a.status a.history
+        a.text.items) }
 {
     law_kept();
     law_one_history();

@@ -71,7 +71,9 @@ fn name_at(
     earlier: &[PolicyDomain],
     table: &Table,
 ) -> Result<Vec<u8>, Fault>
-    ensures { Gives (listed result) (required (path_of (Part.Domain domain) 9) (name_in (path_of (Part.Domain domain) 9) earlier.now) (get_member (codes "name") (table_view table.now))) }
+    ensures { Gives (listed result) (required (path_of (Part.Domain domain) 9)
+        (name_in (path_of (Part.Domain domain) 9) earlier.now)
+        (get_member (codes "name") (table_view table.now))) }
 {
     let path = Path {
         part: Part::Domain(domain),
@@ -139,7 +141,9 @@ fn rrids_in(path: Path, rrids: u8, value: &Value) -> Result<u64, Fault>
 fn rrids_at(domain: u16, rrids: u8, table: &Table) -> Result<u64, Fault>
     requires some { 1 ≤ rrids }
     requires few { rrids ≤ 64 }
-    ensures value { result ≡ required (path_of (Part.Domain domain) 3) (rrids_in (path_of (Part.Domain domain) 3) rrids) (get_member (codes "rrids") (table_view table.now)) }
+    ensures value { result ≡ required (path_of (Part.Domain domain) 3)
+        (rrids_in (path_of (Part.Domain domain) 3) rrids)
+        (get_member (codes "rrids") (table_view table.now)) }
     ensures small { IfOk result (λ m. m < 2 ^ rrids) }
 {
     let path = Path {

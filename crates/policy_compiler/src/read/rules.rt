@@ -105,7 +105,8 @@ fn rights(path: Path, value: &Value) -> Result<Rights, Fault>
 }
 
 fn from_at(part: Part, table: &Table) -> Result<u64, Fault>
-    ensures value { result ≡ required (path_of part 12) (from_in (path_of part 12)) (get_member (codes "from") (table_view table.now)) }
+    ensures value { result ≡ required (path_of part 12) (from_in (path_of part 12))
+        (get_member (codes "from") (table_view table.now)) }
     ensures good { IfOk result (λ n. (n % 4 ≡ 0) × (n ≤ 2 ^ 52)) }
 {
     let path = Path { part, key: 12 };
@@ -117,7 +118,8 @@ fn from_at(part: Part, table: &Table) -> Result<u64, Fault>
 
 fn size_at(part: Part, from: u64, table: &Table) -> Result<u64, Fault>
     requires { from ≤ 2 ^ 52 }
-    ensures value { result ≡ required (path_of part 13) (size_in (path_of part 13) from) (get_member (codes "size") (table_view table.now)) }
+    ensures value { result ≡ required (path_of part 13) (size_in (path_of part 13) from)
+        (get_member (codes "size") (table_view table.now)) }
     ensures good { IfOk result (λ n. (n % 4 ≡ 0) × (4 ≤ n) × (from + n ≤ 2 ^ 52)) }
     ensures top { IfOk result (λ n. IsTrue (is_single from n || nat_lt (from + n) (2 ^ 52))) }
 {
@@ -129,7 +131,8 @@ fn size_at(part: Part, from: u64, table: &Table) -> Result<u64, Fault>
 }
 
 fn rights_at(part: Part, table: &Table) -> Result<Rights, Fault>
-    ensures value { result ≡ required (path_of part 14) (rights_in (path_of part 14)) (get_member (codes "rights") (table_view table.now)) }
+    ensures value { result ≡ required (path_of part 14) (rights_in (path_of part 14))
+        (get_member (codes "rights") (table_view table.now)) }
     ensures good { IfOk result (λ x. rights_bits x < 8) }
 {
     let path = Path { part, key: 14 };

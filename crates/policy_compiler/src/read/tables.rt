@@ -56,7 +56,9 @@ fn has_other_key(part: Part, table: &Table) -> bool
 
 /// Refuses an unknown key.
 pub fn keys(part: Part, table: &Table) -> Result<(), Fault>
-    ensures { MatchResult result (λ _. has_other_key part (table_view table.now) ≡ false) (λ e. (has_other_key part (table_view table.now) ≡ true) × (e ≡ Fault.Key (path_of part 0))) }
+    ensures { MatchResult result (λ _. has_other_key part (table_view table.now) ≡ false)
+        (λ e. (has_other_key part (table_view table.now) ≡ true)
+        × (e ≡ Fault.Key (path_of part 0))) }
 {
     if has_other_key(part, table) {
         Err(Fault::Key {
@@ -94,7 +96,8 @@ pub fn number(path: Path, low: u64, high: u64, value: &Value) -> Result<u64, Fau
 
 /// A table that must be there.
 pub fn table(path: Path, value: Option<&Value>) -> Result<&Table, Fault>
-    ensures { let read = required path (λ v. typed path (as_table v)) (option_map (λ v. view v.now) value.entry) in
+    ensures { let read = required path (λ v. typed path (as_table v))
+        (option_map (λ v. view v.now) value.entry) in
         MatchResult result (λ t. read ≡ Ok (table_view t.now)) (λ e. read ≡ Err e) }
 {
     let Some(value) = value else {
@@ -156,7 +159,8 @@ fn is_few(values: &[Value], most: usize) -> bool
 
 #[tactic(auto, unfolding(crate::specs::Rules::tables_in))]
 fn tables_of(path: Path, most: usize, value: &Value) -> Result<&[Value], Fault>
-    ensures value { MatchResult result (λ t. tables_in path most (view value.now) ≡ Ok (items_view t.now)) (λ e. tables_in path most (view value.now) ≡ Err e) }
+    ensures value { MatchResult result (λ t. tables_in path most (view value.now) ≡ Ok
+        (items_view t.now)) (λ e. tables_in path most (view value.now) ≡ Err e) }
     ensures few { IfOk result (λ t. length t.now ≤ most) }
 {
     let Some(values) = value.as_array() else {
@@ -174,7 +178,8 @@ fn tables_of(path: Path, most: usize, value: &Value) -> Result<&[Value], Fault>
 
 /// The tables of an array, none where it is missing.
 pub fn tables(part: Part, key: u8, most: usize, value: Option<&Value>) -> Result<&[Value], Fault>
-    ensures value { let read = optional no_items (tables_in (path_of part key) most) (option_map (λ v. view v.now) value.entry) in
+    ensures value { let read = optional no_items (tables_in (path_of part key) most)
+        (option_map (λ v. view v.now) value.entry) in
         MatchResult result (λ t. read ≡ Ok (items_view t.now)) (λ e. read ≡ Err e) }
     ensures few { IfOk result (λ t. length t.now ≤ most) }
 {

@@ -48,7 +48,8 @@ fn srcmd(rrids: u8, value: &Value) -> Result<u8, Fault>
 }
 
 fn srcmd_at(rrids: u8, table: &Table) -> Result<u8, Fault>
-    ensures value { result ≡ optional 0 (srcmd_in rrids) (get_member (codes "srcmd") (table_view table.now)) }
+    ensures value { result ≡ optional 0 (srcmd_in rrids)
+        (get_member (codes "srcmd") (table_view table.now)) }
     ensures formats { IfOk result (λ n. IsTrue ((n == 0) || (n == 2))) }
     ensures room { IfOk result (λ n. n ≡ 2 → rrids ≤ 32) }
 {
@@ -60,7 +61,8 @@ fn srcmd_at(rrids: u8, table: &Table) -> Result<u8, Fault>
 
 #[tactic(auto, unfolding(crate::specs::Reading::transl_in))]
 fn transl_at(table: &Table) -> Result<Option<u8>, Fault>
-    ensures value { result ≡ optional None transl_in (get_member (codes "transl") (table_view table.now)) }
+    ensures value { result ≡ optional None transl_in
+        (get_member (codes "transl") (table_view table.now)) }
     ensures small { IfOk result (λ o. IfSome o (λ n. n ≤ 63)) }
 {
     let path = Path {
