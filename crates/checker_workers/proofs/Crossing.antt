@@ -3,6 +3,7 @@ use denote.Param.Send.{IsSend, sendable, struct_send, view_send, recorded_send}
 use denote.Struct.Declared.{shape}
 use Rattle.std.proofs.Crossing.{crosses}
 use Rattle.shared_log.proofs.Crossing.{caller_send}
+use Rattle.event_words.proofs.reply.Reply.TheSendSync as reply
 use Rattle.event_words.proofs.section.Section.TheSendSync as section
 use Rattle.unit_core.specs.contracts.fabric.Fabric as fabric
 use Rattle.unit_core.specs.contracts.fabric.FabricUnits as units
@@ -15,7 +16,7 @@ use Rattle.checker_workers.specs.contracts.lane.Lane as lane
 use Rattle.checker_workers.specs.contracts.lane.Lane.TheInside as lane_inside
 
 port_fields : IsSend port_inside.the_row
-port_fields = recorded_send port_inside.the_field.row _ _ port_inside.the_type.to_one (struct_send (shape port_inside.the_type) (caller_send fabric.the_row units.the_row machine.ghosts replica.the_send, tt))
+port_fields = recorded_send port_inside.the_field.row _ _ port_inside.the_type.to_one (struct_send (shape port_inside.the_type) (caller_send fabric.the_row units.the_row machine.ghosts replica.the_send, (search (sendable, crosses, reply.the_send) depth 12, tt)))
 
 pub port_send : IsSend port.the_row
 port_send = view_send port_inside.the_row _ _ _ _ port_fields

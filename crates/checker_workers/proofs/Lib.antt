@@ -1,4 +1,5 @@
 pub mod Making
+pub mod Told
 pub mod Aims
 pub mod OpenTickets
 pub mod PolledReads

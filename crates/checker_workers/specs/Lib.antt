@@ -1,4 +1,5 @@
 pub mod Ports
+pub mod Told
 pub mod TicketViews
 pub mod Tickets
 pub mod Slots

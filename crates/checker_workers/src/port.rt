@@ -1,5 +1,5 @@
 // One caller's calls on the units, one event each, or two for a submission that isn't narrow.
-ghost use Rattle.std.specs.Prelude.{◌≡◌, ◌+◌, ◌*◌, ◌<◌, ◌≤◌, ◌^◌, length, true};
+ghost use Rattle.std.specs.Prelude.{◌≡◌, ◌+◌, ◌*◌, ◌<◌, ◌≤◌, ◌^◌, [], length, vec_len, vec_capacity, IfSome, true};
 ghost use Rattle.std.specs.List.{AllByRecursion};
 ghost use Rattle.event_words.specs.declared.event.Event.TheVariants as events;
 ghost use Rattle.event_words.specs.declared.reply.Reply.TheVariants as replies;
@@ -12,6 +12,7 @@ ghost use Rattle.shared_log.specs.Callers.{Belongs};
 ghost use Rattle.checker_workers.specs.Ports.{IsAtReset, MakesEvent, unit_count, is_value};
 ghost use Rattle.checker_workers.specs.Tickets.{IsOpenTicket, Judges, BearsTicket, HandsOut, MakesSubmission, is_submit_reply, submitted_reply, last_ticket};
 ghost use Rattle.checker_workers.specs.Pieces.{PlaysThrough};
+ghost use Rattle.checker_workers.specs.Told.{own_replies, HasRoom, IsTold};
 
 use crate::ticket::{Judged, Submitted, Ticket};
 use cascade_path::{ChainReply, send_through};
@@ -20,20 +21,34 @@ use shared_log::{Caller, Shared};
 use std::marker::Model;
 use unit_core::Fabric;
 
+// One reply more, where they are kept.
+#[inline(always)]
+fn keep_reply(told: &mut Option<Vec<Reply>>, reply: Reply)
+    requires { HasRoom told.old }
+    ensures { IsTold told.old reply told.new }
+{
+    if let Some(replies) = told {
+        replies.push_reserved(reply);
+    }
+}
+
 /// A caller of units, seen as that caller.
 #[derive(Drop)]
 pub struct Port {
     caller: Caller<Fabric>,
+    // the replies to the caller's events, where they are kept
+    told: Option<Vec<Reply>>,
 }
 
 impl Model for Port {
-    ghost use Rattle.checker_workers.specs.Ports.{PortView, IsAtReset};
+    ghost use Rattle.checker_workers.specs.Ports.{PortView};
+    ghost use Rattle.checker_workers.specs.Told.{IsPort};
 
     ghost Value = { PortView };
 
     ghost view = { λ p. p.caller };
 
-    ghost invariant = { λ p. IsAtReset p.caller.first };
+    ghost invariant = { λ p. IsPort p.caller p.told };
 }
 
 impl Port {
@@ -42,15 +57,39 @@ impl Port {
         requires { IsAtReset caller.first }
         ensures { result ≡ caller }
     {
-        Port { caller }
+        Port { caller, told: None }
+    }
+
+    /// The same before its first event, which keeps the replies to its caller's events in this list, for
+    /// which there is room.
+    pub fn telling(caller: Caller<Fabric>, replies: Vec<Reply>) -> Port
+        requires reset { IsAtReset caller.first }
+        requires none { caller.log ≡ [] }
+        requires empty { replies.items ≡ [] }
+        requires room { vec_len replies + caller.left ≤ vec_capacity replies }
+        ensures { result ≡ caller }
+    {
+        Port {
+            caller,
+            told: Some(replies),
+        }
     }
 
     /// The caller again.
     pub fn into_caller(self) -> Caller<Fabric>
         ensures { result ≡ self }
     {
-        let Port { caller } = self;
+        let Port { caller, .. } = self;
         caller
+    }
+
+    /// The caller again, and the replies to its events, where they were kept.
+    pub fn into_told(self) -> (Caller<Fabric>, Option<Vec<Reply>>)
+        ensures caller { result.0 ≡ self }
+        ensures told { IfSome result.1 (λ replies. replies.items ≡ own_replies self) }
+    {
+        let Port { caller, told } = self;
+        (caller, told)
     }
 
     // The number of the caller, with what holds of every port.
@@ -80,7 +119,9 @@ impl Port {
         ensures reset { IsAtReset self.old.first }
         ensures words { AllEventWords self.new.log }
     {
-        self.caller.call(shared, event)
+        let reply = self.caller.call(shared, event);
+        keep_reply(&mut self.told, reply);
+        reply
     }
 
     // The ticket of the last event, a submission on this unit.
@@ -262,6 +303,7 @@ impl Port {
         requires left { stages.now.count * (submission_events access + max) ≤ self.old.left }
         ensures { PlaysThrough self.old (stage_units stages.now) access max result self.new }
     {
+        self.told = None;
         let units = &stages.units[..stages.count as usize];
         send_through(&mut self.caller, shared, units, access, max)
     }

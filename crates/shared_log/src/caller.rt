@@ -1,6 +1,7 @@
 // Callers, who make events.
 ghost use Rattle.std.specs.Prelude.{◌≡◌, ℕ, ◌+◌, ◌*◌, ◌<◌, ◌≤◌, length};
 ghost use Rattle.event_words.specs.Events.{caller_of};
+ghost use Rattle.event_words.specs.Runs.{run};
 ghost use Rattle.event_words.specs.Valid.{IsValidEvent};
 ghost use Rattle.event_words.specs.Word.{word_of};
 ghost use Rattle.shared_log.specs.Callers.{Belongs, KeepsBudget, IsCaller, AfterCall};
@@ -70,6 +71,14 @@ impl<M: Machine> Caller<M> {
         ensures budget { KeepsBudget self.now }
     {
         self.left
+    }
+
+    /// The machine, which took the events that the caller has seen.
+    pub fn machine(&self) -> &M
+        ensures machine { result.now ≡ self.now.machine }
+        ensures state { M.state self.now.machine ≡ run M.after self.now.first self.now.log }
+    {
+        &self.machine
     }
 
     /// Makes an event, after all events of others that it had not seen, and answers what the machine

@@ -10,4 +10,4 @@ pub returns : goal.returns
 returns c =
     plays_through c.args.self.now c.send_through.new.caller (stage_units c.args.stages.now) c.args.access c.args.max c.send_through.result
     (subst (λ (p : PortView). SendsThrough state_after_word reply_to_word p (stage_units c.args.stages.now) c.args.access c.args.max c.send_through.result c.send_through.new.caller) c.self.view_is c.send_through.ensures.sends)
-    c.send_through.ensures.caller.events (subst (λ (p : PortView). IsAtReset p.first) c.self.view_is c.self.invariant) c.requires.access.below_end c.requires.units
+    c.send_through.ensures.caller.events (subst (λ (p : PortView). IsAtReset p.first) c.self.view_is c.self.invariant.reset) c.requires.access.below_end c.requires.units
