@@ -1,5 +1,6 @@
 pub mod UnitLines
 pub mod PlayedSections
+pub mod ToldReplies
 pub mod NoCommands
 pub mod UpdateRefusals
 pub mod ScriptsBeside

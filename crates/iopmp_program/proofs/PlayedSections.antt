@@ -52,7 +52,7 @@ records events i (s ∷ ss) h = (
 
 -- ---- whose events come first
 
-at_most : (w : ℕ) (ws : List ℕ) → words_by (caller_of_word w) (w ∷ ws) ≡ [] → ⊥
+pub at_most : (w : ℕ) (ws : List ℕ) → words_by (caller_of_word w) (w ∷ ws) ≡ [] → ⊥
 at_most w ws none = let e : w ∷ words_by (caller_of_word w) ws ≡ [] = sym (words-own (caller_of_word w) w ws refl) ∙ none in cc
 
 below : (n w : ℕ) (ws : List ℕ) → ((c : ℕ) → n ≤ c → words_by c (w ∷ ws) ≡ []) → Dec (n ≤ caller_of_word w) → caller_of_word w < n
@@ -73,7 +73,7 @@ other : (w : ℕ) (ws : List ℕ) → words_by 0 (w ∷ ws) ≡ [] → Dec (call
 other w ws none (yes h) = let e : w ∷ words_by 0 ws ≡ [] = sym (words-own 0 w ws h) ∙ none in cc
 other w ws none (no h) = omega arith
 
-boot_words : (ws : List ℕ) → ((c : ℕ) → 1 ≤ c → words_by c ws ≡ []) → AllByRecursion IsBoot ws
+pub boot_words : (ws : List ℕ) → ((c : ℕ) → 1 ≤ c → words_by c ws ≡ []) → AllByRecursion IsBoot ws
 boot_words [] none = tt
 boot_words (w ∷ ws) none = (let lt = below 1 w ws none (dec_le 1 (caller_of_word w)) in omega arith, boot_words ws (tail 1 w ws none))
 

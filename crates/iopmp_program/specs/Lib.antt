@@ -1,4 +1,5 @@
 pub mod Replays
+pub mod ToldHistories
 pub mod StatusCodes
 pub mod ScriptNumbers
 pub mod CommandWords

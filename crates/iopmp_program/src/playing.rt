@@ -8,6 +8,7 @@ ghost use Rattle.checker_workers.specs.Ports.{PortView, unit_count};
 ghost use Rattle.checker_workers.specs.Lanes.{LaneView, MayPlay, MayRun};
 ghost use Rattle.iopmp_program.specs.PlayedSections.{IsFreshReplica, HasFreshReplica, HasSection, section_of, HasPlayed, IsFirstCaller, MaySplit, MayBePlayed, MayAllPlay, IsReadyLane, AreReadyLanes, RunsTo, port_of};
 
+pub mod alone;
 pub mod beside;
 mod budgets;
 mod players;

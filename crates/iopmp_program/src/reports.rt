@@ -2,50 +2,47 @@
 ghost use Rattle.std.specs.Prelude.{◌≡◌, ◌++◌, ◌+◌, ◌*◌, ◌≤◌, ◌∷◌, [], length, flat_map, codes, IfOk, OnOk};
 ghost use Rattle.std.specs.List.{AllByRecursion};
 ghost use Rattle.event_words.specs.Valid.{IsValidShape};
-ghost use Rattle.event_words.specs.Runs.{IsEventWord, logged_from, run_from};
-ghost use Rattle.unit_core.specs.Fabrics.{state_after_word, reply_to_word};
+ghost use Rattle.event_words.specs.Runs.{IsEventWord};
 ghost use Rattle.event_words.specs.ReportLines.{event_line};
 ghost use Rattle.unit_core.specs.Reports.{section_lines, unit_lines, report_text};
 ghost use Rattle.iopmp_program.specs.SectionEnds.{cursor_ends, end_lines};
+ghost use Rattle.iopmp_program.specs.ToldHistories.{logged_with, IsToldOf};
 ghost use Rattle.iopmp_program.specs.FaultsCommand.{IsFaultsText};
 
 mod cursors;
 pub mod replay;
+pub mod told;
 mod windows;
 
 use crate::memory::NoMemory;
 use cursors::{note, push_ends};
-use event_words::{Line, Listed, Machine, Section};
+use event_words::{Line, Listed, Reply, Section};
 use replay::replay_words;
 use script_reader::Script;
 use section_cursor::{Cursor, section_cursors};
 use std::alloc::{AllocError, Global};
+use told::{Told, replayed};
 use unit_core::Fabric;
 use windows::push_windows;
 
-/// Applies each word at its place, writes its event's line and notes it.
+/// Writes the line of each word's event with its reply, and notes the event.
 fn push_history(
     out: &mut Vec<u8>,
-    units: &mut Fabric,
     cursors: &mut [Cursor],
     words: &[u64],
+    replies: &[Reply],
 ) -> Result<(), AllocError>
-    requires next { units.old.next ≡ 0 }
-    requires places { units.old.places ≡ length words.now }
     requires few { length words.now ≤ 1048576 }
-    ensures text { OnOk result (out.new.items ≡ out.old.items ++ flat_map event_line
-        (logged_from state_after_word reply_to_word 0 units.old.state words.now)) }
-    ensures units { OnOk result
-        (units.new.state ≡ run_from state_after_word 0 units.old.state words.now) }
-    ensures ends { OnOk result (cursor_ends 0 cursors.new [] ≡ cursor_ends 0 cursors.old
-        (logged_from state_after_word reply_to_word 0 units.old.state words.now)) }
+    requires replies { length replies.now ≡ length words.now }
+    ensures text { OnOk result (out.new.items ≡
+        out.old.items ++ flat_map event_line (logged_with 0 words.now replies.now)) }
+    ensures ends { OnOk result (cursor_ends 0 cursors.new [] ≡
+        cursor_ends 0 cursors.old (logged_with 0 words.now replies.now)) }
     ensures count { length cursors.new ≡ length cursors.old }
 {
     let mut listed = Listed::new();
     for (place, word) in words.iter().enumerate() {
-        let place = place as u32;
-        let reply = units.apply(place, *word);
-        if !listed.take(place, *word, reply) {
+        if !listed.take(place as u32, *word, replies[place]) {
             continue;
         }
         note(cursors, listed.logged());
@@ -58,21 +55,18 @@ fn push_history(
 fn push_noted(
     out: &mut Vec<u8>,
     line: &mut Line,
-    units: &mut Fabric,
     cursors: &mut [Cursor],
     words: &[u64],
+    replies: &[Reply],
 ) -> Result<(), AllocError>
-    requires next { units.old.next ≡ 0 }
-    requires places { units.old.places ≡ length words.now }
     requires few { length words.now ≤ 1048576 }
+    requires replies { length replies.now ≡ length words.now }
     requires cursors { length cursors.old ≤ 17 }
-    ensures text { OnOk result (out.new.items ≡ out.old.items
-        ++ (flat_map event_line (logged_from state_after_word reply_to_word 0 units.old.state words.now)
-        ++ end_lines 0 (cursor_ends 0 cursors.old (logged_from state_after_word reply_to_word 0 units.old.state words.now)))) }
-    ensures units { OnOk result
-        (units.new.state ≡ run_from state_after_word 0 units.old.state words.now) }
+    ensures { OnOk result (out.new.items ≡ out.old.items
+        ++ (flat_map event_line (logged_with 0 words.now replies.now)
+        ++ end_lines 0 (cursor_ends 0 cursors.old (logged_with 0 words.now replies.now)))) }
 {
-    push_history(out, units, cursors, words)?;
+    push_history(out, cursors, words, replies)?;
     push_ends(out, line, cursors)?;
     Ok(())
 }
@@ -82,23 +76,20 @@ fn push_events(
     out: &mut Vec<u8>,
     line: &mut Line,
     alloc: Global,
-    units: &mut Fabric,
     boot: &Section,
     lanes: &[Section],
     words: &[u64],
+    replies: &[Reply],
 ) -> Result<(), AllocError>
-    requires next { units.old.next ≡ 0 }
-    requires places { units.old.places ≡ length words.now }
     requires few { length words.now ≤ 1048576 }
+    requires replies { length replies.now ≡ length words.now }
     requires lanes { length lanes.now ≤ 16 }
-    ensures text { OnOk result (out.new.items ≡ out.old.items
-        ++ (flat_map event_line (logged_from state_after_word reply_to_word 0 units.old.state words.now)
-        ++ section_lines (logged_from state_after_word reply_to_word 0 units.old.state words.now) 0 (boot.now ∷ lanes.now))) }
-    ensures units { OnOk result
-        (units.new.state ≡ run_from state_after_word 0 units.old.state words.now) }
+    ensures { OnOk result (out.new.items ≡ out.old.items
+        ++ (flat_map event_line (logged_with 0 words.now replies.now)
+        ++ section_lines (logged_with 0 words.now replies.now) 0 (boot.now ∷ lanes.now))) }
 {
     let mut cursors = section_cursors(alloc, boot, lanes)?;
-    push_noted(out, line, units, cursors.as_mut_slice(), words)?;
+    push_noted(out, line, cursors.as_mut_slice(), words, replies)?;
     Ok(())
 }
 
@@ -122,6 +113,37 @@ fn report_room(count: usize) -> usize
 }
 
 /// The lines of the report but the last, which is `end`.
+fn told_body(
+    alloc: Global,
+    script: &Script,
+    words: &[u64],
+    told: &Told,
+) -> Result<Vec<u8>, NoMemory>
+    requires lanes { length script.now.lanes ≤ 16 }
+    requires few { length words.now ≤ 1048576 }
+    requires told { IsToldOf told.now script.now.shapes words.now }
+    ensures { IfOk result (λ body. body.items ++ codes "end\n" ≡
+        report_text script.now.shapes script.now.boot script.now.lanes words.now) }
+{
+    let count = words.len();
+    let mut line = Line::new();
+    let mut out = Vec::with_capacity(alloc, report_room(count))?;
+    line.make_count(count as u32);
+    out.extend_from_slice(line.bytes())?;
+    push_events(
+        &mut out,
+        &mut line,
+        alloc,
+        &script.boot,
+        &script.lanes,
+        words,
+        &told.replies,
+    )?;
+    out.extend_from_slice(&told.errors)?;
+    Ok(out)
+}
+
+/// The same, where the words are replayed for what is told of them.
 fn report_body(alloc: Global, script: &Script, words: &[u64]) -> Result<Vec<u8>, NoMemory>
     requires count { (1 ≤ length script.now.shapes) × (length script.now.shapes ≤ 4) }
     requires shapes { AllByRecursion IsValidShape script.now.shapes }
@@ -130,22 +152,25 @@ fn report_body(alloc: Global, script: &Script, words: &[u64]) -> Result<Vec<u8>,
     ensures { IfOk result (λ body. body.items ++ codes "end\n" ≡
         report_text script.now.shapes script.now.boot script.now.lanes words.now) }
 {
-    let count = words.len();
-    let mut line = Line::new();
-    let mut units = Fabric::open(alloc, &script.shapes, count as u32)?;
-    let mut out = Vec::with_capacity(alloc, report_room(count))?;
-    line.make_count(count as u32);
-    out.extend_from_slice(line.bytes())?;
-    push_events(
-        &mut out,
-        &mut line,
-        alloc,
-        &mut units,
-        &script.boot,
-        &script.lanes,
-        words,
-    )?;
-    push_units(&mut out, &mut line, &units)?;
+    let told = replayed(alloc, &script.shapes, words)?;
+    told_body(alloc, script, words, &told)
+}
+
+/// The report of a history of the script of which this is told.
+pub fn told_report(
+    alloc: Global,
+    script: &Script,
+    words: &[u64],
+    told: &Told,
+) -> Result<Vec<u8>, NoMemory>
+    requires lanes { length script.now.lanes ≤ 16 }
+    requires few { length words.now ≤ 1048576 }
+    requires told { IsToldOf told.now script.now.shapes words.now }
+    ensures { IfOk result (λ text. text.items ≡
+        report_text script.now.shapes script.now.boot script.now.lanes words.now) }
+{
+    let mut out = told_body(alloc, script, words, told)?;
+    out.extend_from_slice(b"end\n")?;
     Ok(out)
 }
 

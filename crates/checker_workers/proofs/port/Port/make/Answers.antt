@@ -21,5 +21,5 @@ pub invariant_of-self : goal.invariant_of-self
 invariant_of-self c =
     let p = c.self.inside.caller in
     let made = makes_event p c.call-reply.new.self c.args.event c.call-reply.result c.call-reply.ensures.call c.call-reply.ensures.caller.replica c.requires.event
-        (subst (λ (v : PortView). caller_of c.args.event ≡ v.number) (sym c.self.view_is) c.requires.caller) in
+    (subst (λ (v : PortView). caller_of c.args.event ≡ v.number) (sym c.self.view_is) c.requires.caller) in
     port_after p c.call-reply.new.self c.args.event c.call-reply.result c.self.inside.told c.keep_reply.new.told made c.self.invariant c.keep_reply.ensures
