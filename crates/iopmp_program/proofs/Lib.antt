@@ -1,6 +1,7 @@
 pub mod UnitLines
 pub mod PlayedSections
 pub mod ToldReplies
+pub mod ToldCodes
 pub mod NoCommands
 pub mod UpdateRefusals
 pub mod ScriptsBeside

@@ -10,7 +10,7 @@ use crate::generated::script::generated_script;
 use crate::generated::summary::{summary, verdict_codes};
 use crate::memory::NoMemory;
 use crate::playing::play;
-use crate::reports::replay::replay_words;
+use crate::reports::told::replayed;
 use checker_workers::Gate;
 use std::alloc::Global;
 use std::thread::Threads;
@@ -26,8 +26,8 @@ fn soaked<R: Threads + Sync, G: Gate + Sync>(
 {
     let script = generated_script(alloc, number)?;
     let history = play(rt, alloc, &script, gate)?;
-    let replay = replay_words(alloc, &script.shapes, history.words())?;
-    let codes = verdict_codes(alloc, &replay.events)?;
+    let told = replayed(alloc, &script.shapes, history.words())?;
+    let codes = verdict_codes(alloc, &told.replies)?;
     let text = summary(alloc, number, &codes)?;
     Ok(report_answer(history, text))
 }

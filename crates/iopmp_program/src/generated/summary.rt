@@ -1,10 +1,10 @@
 // The summary of a history's verdicts.
-ghost use Rattle.std.specs.Prelude.{◌≡◌, ◌++◌, count_by, IfOk, OnOk};
+ghost use Rattle.std.specs.Prelude.{◌≡◌, ◌++◌, count_by, filter_map, IfOk, OnOk};
 ghost use Rattle.std.specs.String.{string_bytes};
 ghost use Rattle.history_laws.specs.Live.{kind_of_verdict};
-ghost use Rattle.iopmp_program.specs.Summaries.{is_code, denied_line, denied_lines, summary_text, reply_code, verdict_codes};
+ghost use Rattle.iopmp_program.specs.Summaries.{is_code, denied_line, denied_lines, summary_text, reply_code};
 
-use event_words::{LoggedEvent, Reply, Verdict};
+use event_words::{Reply, Verdict};
 use std::alloc::{AllocError, Global};
 
 /// 0 where a verdict allows, else the violation's code.
@@ -27,13 +27,13 @@ fn reply_code(reply: &Reply) -> Option<u8>
     }
 }
 
-/// The codes of all verdicts, in their order.
-pub fn verdict_codes(alloc: Global, events: &[LoggedEvent]) -> Result<Vec<u8>, AllocError>
-    ensures { IfOk result (λ codes. codes.items ≡ verdict_codes events.now) }
+/// The codes of the replies that are verdicts, in their order.
+pub fn verdict_codes(alloc: Global, replies: &[Reply]) -> Result<Vec<u8>, AllocError>
+    ensures { IfOk result (λ codes. codes.items ≡ filter_map reply_code replies.now) }
 {
-    events
+    replies
         .iter()
-        .filter_map(|logged| reply_code(&logged.reply))
+        .filter_map(|reply| reply_code(reply))
         .collect(alloc)
 }
 
