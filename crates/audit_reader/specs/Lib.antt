@@ -1,3 +1,4 @@
+-- What an auditor of reports cites: the lines that it takes, the history that they tell, and what it finds amiss.
 pub mod Digits
 pub mod Beginnings
 pub mod ReportLines

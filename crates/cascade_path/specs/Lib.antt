@@ -1,3 +1,4 @@
+-- What an access that goes through units in turn makes: its events, its answers and its stages.
 pub mod Making
 pub mod Answers
 pub mod Chains

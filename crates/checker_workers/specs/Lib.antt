@@ -1,3 +1,4 @@
+-- What callers of units cite: ports, tickets, lanes, and the pieces of a record that their commands make.
 pub mod Ports
 pub mod Told
 pub mod TicketViews

@@ -1,3 +1,4 @@
+-- What every legal history has: verdicts, windows, guards, tickets and Busy, as the laws say it.
 pub mod Queues
 pub mod Aims
 pub mod NothingFound

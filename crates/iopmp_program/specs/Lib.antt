@@ -1,3 +1,4 @@
+-- What a call of the program gives: how it is asked, what each command answers, and how it ends.
 pub mod Replays
 pub mod ToldHistories
 pub mod StatusCodes

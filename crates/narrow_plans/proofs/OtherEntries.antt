@@ -17,13 +17,15 @@ use Rattle.event_words.specs.Registers.{Registers, word_at, bits_of, has_bit, ha
 use Rattle.event_words.specs.Guards.{reg}
 use Rattle.event_words.specs.WellFormed.{IsWellFormed}
 use Rattle.event_words.proofs.Indexes.{register_at-tells}
-use Rattle.event_words.specs.Entries.{word_address, bottom_of}
+use Rattle.event_words.specs.declared.address_mode.AddressMode.{AddressMode}
+use Rattle.event_words.specs.declared.address_mode.AddressMode.TheVariants.{Off, Tor, Na4, Napot}
+use Rattle.event_words.specs.Entries.{word_address, mode_at, mode_of, bottom_of}
 use Rattle.event_words.specs.Domains.{bound_of, is_bounded_by, owner_of, is_in_table, is_enabled_in, is_readable_in, is_writable_in, has_first_permission, has_second_permission, is_associated, by_kind, domain_grants}
 use Rattle.event_words.specs.Decisions.{owned_by, is_entry_of, entry_grants, prio_count}
 use Rattle.event_words.proofs.Cases.{by_test}
 use Rattle.entry_ranges.specs.declared.ByteRange.{ByteRange}
 use Rattle.mdcfg_formats.proofs.Searches.{find_below}
-use Rattle.narrow_plans.specs.Views.{EntryView, entry_range, entry_view, seen_entry, view_of}
+use Rattle.narrow_plans.specs.Views.{EntryView, range_by_mode, entry_range, entry_view, seen_entry, view_of}
 use Rattle.narrow_plans.specs.Seen.{is_own, IsEntryPart, LeavesView}
 use Rattle.narrow_plans.proofs.Walks.{unseen}
 
@@ -134,8 +136,14 @@ module _ (h : Shape) (v w : List ℕ) (i index s : ℕ) (valid : IsValidShape h)
       (λ t. rw t refl)
       (λ t. rw t (ap (λ n. 4 * n) (address (j - 1) (λ e. next (from_one j t e)))))
 
+  range_by : (j : ℕ) (mode : AddressMode) → j ≢ i → j ≢ i + 1 → range_by_mode R j mode ≡ range_by_mode S j mode
+  range_by j Off ne next = refl
+  range_by j Tor ne next = rw (address j ne, bottom j ne next) refl
+  range_by j Na4 ne next = rw (address j ne) refl
+  range_by j Napot ne next = rw (address j ne) refl
+
   range : (j : ℕ) → j ≢ i → j ≢ i + 1 → entry_range R j ≡ entry_range S j
-  range j ne next = rw (other_word j ne, address j ne, bottom j ne next) refl
+  range j ne next = ap (λ n. range_by_mode R j (mode_at (bits_of 3 2 n))) (other_word j ne) ∙ range_by j (mode_of S j) ne next
 
   grants : (kind : Kind) (j : ℕ) → j ≢ i → s < h.rrids → entry_grants R s kind j ≡ entry_grants S s kind j
   grants kind j ne l =

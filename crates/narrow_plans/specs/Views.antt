@@ -6,6 +6,8 @@ use Rattle.std.specs.Int.{trailing_ones, w64}
 use Rattle.event_words.specs.declared.access.Kind.TheVariants.{Read, Write, Fetch}
 use Rattle.event_words.specs.Registers.{Registers}
 use Rattle.entry_ranges.specs.declared.ByteRange.{ByteRange}
+use Rattle.event_words.specs.declared.address_mode.AddressMode.{AddressMode}
+use Rattle.event_words.specs.declared.address_mode.AddressMode.TheVariants.{Off, Tor, Na4, Napot}
 use Rattle.event_words.specs.Entries.{word_address, mode_of, bottom_of}
 use Rattle.event_words.specs.Decisions.{is_entry_of, entry_grants, prio_count, entries}
 pub use Rattle.narrow_plans.specs.declared.views.EntryView.{EntryView}
@@ -23,12 +25,12 @@ range_up_to bottom top = if nat_lt bottom top then Some (range bottom top) else 
 abbrev pub block_around : ℕ → ℕ → ByteRange
 block_around size x = range (x / size * size) (x / size * size + size)
 
-abbrev pub range_by_mode : Registers → ℕ → ℕ → Option ByteRange
-range_by_mode r j mode =
-    if mode == 0 then None
-    else (if mode == 1 then range_up_to (bottom_of r j) (4 * word_address r j)
-    else (if mode == 2 then Some (range (4 * word_address r j) (4 * word_address r j + 4))
-    else Some (block_around (2 ^ (trailing_ones w64 (word_address r j) + 3)) (4 * word_address r j))))
+abbrev pub range_by_mode : Registers → ℕ → AddressMode → Option ByteRange
+range_by_mode r j Off = None
+range_by_mode r j Tor = range_up_to (bottom_of r j) (4 * word_address r j)
+range_by_mode r j Na4 = Some (range (4 * word_address r j) (4 * word_address r j + 4))
+range_by_mode r j Napot =
+    Some (block_around (2 ^ (trailing_ones w64 (word_address r j) + 3)) (4 * word_address r j))
 
 -- The first byte of entry j and the byte past its last, where it has some byte.
 abbrev pub entry_range : Registers → ℕ → Option ByteRange

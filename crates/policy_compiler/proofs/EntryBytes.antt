@@ -9,10 +9,13 @@ use Rattle.std.proofs.lemmas.Nat.Bits.{bit_at-trailing_ones, bit_at_above, bit_a
 use Rattle.std.proofs.lemmas.Bool.{cases_lt}
 use Rattle.std.proofs.lemmas.Bool.Decides.{nat_tests}
 use lib.Count.{ones_step}
+use Rattle.event_words.specs.declared.address_mode.AddressMode.{AddressMode}
+use Rattle.event_words.specs.declared.address_mode.AddressMode.TheVariants.{Off, Tor, Na4, Napot}
 use Rattle.event_words.specs.declared.register.Register.TheVariants.{EntryCfg}
-use Rattle.event_words.specs.Registers.{Registers}
+use Rattle.event_words.specs.Registers.{Registers, bits_of}
 use Rattle.event_words.specs.Guards.{reg}
-use Rattle.event_words.specs.Entries.{word_address, mode_of, bottom_of, is_byte_of, is_byte_of_mode}
+use Rattle.event_words.specs.Entries.{word_address, mode_at, mode_of, bottom_of, is_byte_of, is_byte_by}
+use Rattle.event_words.proofs.Blocks.{block_bytes}
 use Rattle.register_fields.specs.Rights.{rights_bits}
 use Rattle.policy_compiler.specs.declared.policy.Rule.{Rule}
 use Rattle.policy_compiler.specs.Policies.{IsRule, is_single}
@@ -21,20 +24,22 @@ use Rattle.policy_compiler.specs.Decides.{is_between}
 
 -- ---- modes
 
-with_mode : (r : Registers) (i x m : ℕ) → mode_of r i ≡ m → is_byte_of r i x ≡ is_byte_of_mode r i x m
-with_mode r i x m e = ap (is_byte_of_mode r i x) e
+with_mode : (r : Registers) (i x : ℕ) (m : AddressMode) → mode_of r i ≡ m → is_byte_of r i x ≡ is_byte_by r i x m
+with_mode r i x m e = ap (is_byte_by r i x) e
 
-mode_from : (r : Registers) (i rights m : ℕ) → reg r (EntryCfg i) ≡ rights + 8 * m → rights < 8 → m < 4 → mode_of r i ≡ m
-mode_from r i rights m e h k = rw e (omega arith)
+mode_from : (r : Registers) (i rights m : ℕ) → reg r (EntryCfg i) ≡ rights + 8 * m → rights < 8 → m < 4 → mode_of r i ≡ mode_at m
+mode_from r i rights m e h k =
+    let bits : bits_of 3 2 (reg r (EntryCfg i)) ≡ m = rw e (omega arith) in
+    ap mode_at bits
 
 pub off_bytes : (r : Registers) (i x : ℕ) → reg r (EntryCfg i) ≡ 0 → is_byte_of r i x ≡ false
-off_bytes r i x e = with_mode r i x 0 (mode_from r i 0 0 e (omega arith) (omega arith))
+off_bytes r i x e = with_mode r i x Off (mode_from r i 0 0 e (omega arith) (omega arith))
 
 pub na4_bytes : (r : Registers) (i x from rights : ℕ) → reg r (EntryCfg i) ≡ rights + 16 → rights < 8 → word_address r i ≡ from / 4 → from % 4 ≡ 0
     → is_byte_of r i x ≡ is_between from (from + 4) x
 na4_bytes r i x from rights e h w m =
     let f : 4 * word_address r i ≡ from = omega arith in
-    with_mode r i x 2 (mode_from r i rights 2 e h (omega arith)) ∙ ap (λ n. is_between n (n + 4) x) f
+    with_mode r i x Na4 (mode_from r i rights 2 e h (omega arith)) ∙ ap (λ n. is_between n (n + 4) x) f
 
 pub tor_bytes : (r : Registers) (i x bottom top rights : ℕ) → reg r (EntryCfg (i + 1)) ≡ rights + 8 → rights < 8 → word_address r i ≡ bottom / 4 → word_address r (i + 1) ≡ top / 4
     → bottom % 4 ≡ 0 → top % 4 ≡ 0 → is_byte_of r (i + 1) x ≡ is_between bottom top x
@@ -43,37 +48,9 @@ tor_bytes r i x bottom top rights e h low high m n =
     let p : (i + 1) - 1 ≡ i = omega arith in
     let b : bottom_of r (i + 1) ≡ bottom = rw (z, p) (omega arith) in
     let t : 4 * word_address r (i + 1) ≡ top = omega arith in
-    with_mode r (i + 1) x 1 (mode_from r (i + 1) rights 1 e h (omega arith)) ∙ (ap (λ n. is_between n (4 * word_address r (i + 1)) x) b ∙ ap (λ n. is_between bottom n x) t)
+    with_mode r (i + 1) x Tor (mode_from r (i + 1) rights 1 e h (omega arith)) ∙ (ap (λ n. is_between n (4 * word_address r (i + 1)) x) b ∙ ap (λ n. is_between bottom n x) t)
 
 -- ---- blocks
-
--- the numbers with one quotient are those of one block
-block_bytes : (s q x : ℕ) → 0 < s → eqb (x / s) q ≡ is_between (q * s) (q * s + s) x
-block_bytes s q x h =
-    let split = div-add-mod' x s in
-    let rem = mod_below x s h in
-    ⊎_elim
-    (λ (under : x < q * s).
-    let ne : x / s ≡ q → ⊥ = λ e. absurd (let e2 : x / s * s ≡ q * s = ap (λ y. y * s) e in omega arith) in
-    let f : leb (q * s) x ≡ false = search (nat_tests, arith) in
-    let g : eqb (x / s) q ≡ false = search (nat_tests, arith) in
-    rw (f, g) refl)
-    (λ (from : q * s ≤ x). ⊎_elim
-    (λ (upto : x < q * s + s).
-    let a1 = le-div q x s h from in
-    let a2 = div_below x s (q + 1) h (rw (add-mul q 1 s, one-mul) upto) in
-    let f : leb (q * s) x ≡ true = search (nat_tests, arith) in
-    let k : ltb x (q * s + s) ≡ true = search (nat_tests, arith) in
-    let g : eqb (x / s) q ≡ true = search (nat_tests, arith) in
-    rw (f, k, g) refl)
-    (λ (past : q * s + s ≤ x).
-    let ne : x / s ≡ q → ⊥ = λ e. absurd (let e2 : x / s * s ≡ q * s = ap (λ y. y * s) e in omega arith) in
-    let f : leb (q * s) x ≡ true = search (nat_tests, arith) in
-    let k : ltb x (q * s + s) ≡ false = search (nat_tests, arith) in
-    let g : eqb (x / s) q ≡ false = search (nat_tests, arith) in
-    rw (f, k, g) refl)
-    (cases_lt x (q * s + s)))
-    (cases_lt x (q * s))
 
 -- a number with n ones below a zero
 ones_below : (q k : ℕ) → q * 2 ^ (k + 1) + (2 ^ k - 1) + 1 < 2 ^ 64 → trailing_ones w64 (q * 2 ^ (k + 1) + (2 ^ k - 1)) ≡ k
@@ -127,7 +104,7 @@ napot_bytes r i x from size k rights e h w p m top =
     let block : 2 ^ (trailing_ones w64 (word_address r i) + 3) ≡ size = rw ones (sym p) in
     let rest : 4 * word_address r i ≡ q * size + (4 * 2 ^ k - 4) = omega arith in
     let quotient : 4 * word_address r i / size ≡ q = rw rest (div-mul-add q size (4 * 2 ^ k - 4) (omega arith)) in
-    with_mode r i x 3 (mode_from r i rights 3 e h (omega arith))
+    with_mode r i x Napot (mode_from r i rights 3 e h (omega arith))
     ∙ (ap (λ s. eqb (x / s) (4 * word_address r i / s)) block
     ∙ (ap (eqb (x / size)) quotient ∙ (block_bytes size q x some ∙ ap (λ n. is_between n (n + size) x) whole)))
 

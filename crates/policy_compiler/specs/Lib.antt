@@ -1,3 +1,4 @@
+-- What a policy means: its text, its members, what it gives to whom, and its image in the registers.
 pub mod Policies
 pub mod Paths
 pub mod Tables

@@ -1,3 +1,4 @@
+-- What a text means as a script or an update, which line is refused with which code, and its canonical form.
 pub mod Codes
 pub mod Text
 pub mod Numbers

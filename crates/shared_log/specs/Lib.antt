@@ -1,3 +1,4 @@
+-- What callers of one log know: its words, their seats, and the rule that all steps keep.
 pub mod Words
 pub mod SeatViews
 pub mod Rule

@@ -2,7 +2,7 @@ use Rattle.std.proofs.Common.{◌≡◌, ◌+◌, true, false, arith, sym, ap, �
 use Rattle.event_words.specs.Decisions.{is_covering, by_covering}
 use Rattle.decoded_tables.proofs.Ranges.{covered_here}
 use Rattle.decoded_tables.proofs.Refusals.{allowed_at}
-use Rattle.decoded_tables.proofs.Scans.{filter_taken, filter_left}
+use Rattle.event_words.proofs.Ranges.{filter_taken, filter_left}
 use Rattle.decoded_tables.proofs.Walks.{entry_own, own_covering}
 use Rattle.decoded_tables.proofs.covering.with_entry.Goals as goal
 
