@@ -106,7 +106,7 @@ impl<M: Machine> Caller<M> {
                 self.left -= 1;
                 return self.machine.apply(place, word);
             }
-            self.machine.apply(place, found);
+            self.machine.advance(place, found);
         }
     }
 }

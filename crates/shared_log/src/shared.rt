@@ -115,7 +115,7 @@ fn bring_up<M: Machine>(shared: &Shared, seat: &mut Seat<(), SeatView>, end: u32
     let mut machine = fresh;
     for place in 0..end {
         let word = steps.load::<ReadBack>(seat, place as usize);
-        machine.apply(place, word);
+        machine.advance(place, word);
     }
     machine
 }

@@ -29,9 +29,9 @@ loop-place-preserved g c =
     let below : c.loop-place.place < length log = let b = c.loop-place-test.true in let e = c.requires.end in omega arith in
     let word : c.load-word.result ≡ get_or log c.loop-place.place 0 = ld.2.1 ∙ ap (λ x. get_or x.0.log c.loop-place.place 0) v.seat.1 in record {
       seat = (ld.0 ∙ v.seat.0, ld.2.0 ∙ v.seat.1);
-      state = c.apply.ensures.state ∙ ap (λ s. m.after s c.loop-place.place c.load-word.result) v.state ∙ ap (m.after (run m.after s0 (take c.loop-place.place log)) c.loop-place.place) word ∙ sym (run-take m.after s0 log c.loop-place.place below);
-      next = c.apply.ensures.next ∙ ap (λ n. n + 1) v.next;
-      places = c.apply.ensures.places ∙ v.places;
+      state = c.advance.ensures.state ∙ ap (λ s. m.after s c.loop-place.place c.load-word.result) v.state ∙ ap (m.after (run m.after s0 (take c.loop-place.place log)) c.loop-place.place) word ∙ sym (run-take m.after s0 log c.loop-place.place below);
+      next = c.advance.ensures.next ∙ ap (λ n. n + 1) v.next;
+      places = c.advance.ensures.places ∙ v.places;
     }
 
 pub returns-clause-state : goal.returns-clause-state

@@ -50,10 +50,10 @@ word-preserved g c =
     = words-snoc-other c.word.self-inside.number c.word.self-inside.seat.me.0.log c.compare_exchange-found.result (λ e. lost.1 (e ∙ sym i.number_is)) in
     let left = i.left_is in record {
       empty = ex.2.0 ∙ c.word.invariant.empty;
-      is = one_word_more m.state m.next_place m.places m.after i c.compare_exchange-found.result c.compare_exchange-found.new.seat.me.0 c.word.self-inside.left c.apply-in-word.new.self c.compare_exchange-found.new.seat.table_id.words
-          lost.0 ex.2.1.valid (ap (λ t. t.words) ex.0) c.apply-in-word.ensures.state c.apply-in-word.ensures.next c.apply-in-word.ensures.places (omega (arith, ap length other));
+      is = one_word_more m.state m.next_place m.places m.after i c.compare_exchange-found.result c.compare_exchange-found.new.seat.me.0 c.word.self-inside.left c.advance.new.self c.compare_exchange-found.new.seat.table_id.words
+          lost.0 ex.2.1.valid (ap (λ t. t.words) ex.0) c.advance.ensures.state c.advance.ensures.next c.advance.ensures.places (omega (arith, ap length other));
       some_left = c.word.invariant.some_left;
-      so_far = word_of_others_more m.state m.next_place m.places m.after c.word.self-inside.seat.table_id c.word.self-inside.seat.me.0 c.word.self-inside.left c.word.self-inside.machine (m.state c.word.self-inside.first.value) c.word.invariant.so_far c.compare_exchange-found.result c.compare_exchange-found.new.seat.me.0 c.compare_exchange-found.new.seat.table_id c.apply-in-word.new.self lost.0 lost.1 ex.0;
+      so_far = word_of_others_more m.state m.next_place m.places m.after c.word.self-inside.seat.table_id c.word.self-inside.seat.me.0 c.word.self-inside.left c.word.self-inside.machine (m.state c.word.self-inside.first.value) c.word.invariant.so_far c.compare_exchange-found.result c.compare_exchange-found.new.seat.me.0 c.compare_exchange-found.new.seat.table_id c.advance.new.self lost.0 lost.1 ex.0;
     }
 
 -- the caller's fields after a won exchange
