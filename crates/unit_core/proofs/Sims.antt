@@ -58,11 +58,14 @@ known_pairs flags (x ∷ xs) h = by_test x.queued _
     (λ t. rw t (flag_known flags x.access.rrid (h.0 t), known_pairs flags xs h.1))
     (λ f. rw f (known_pairs flags xs h.1))
 
-pub held_pairs : (flags : List Bool) (xs : List Submission) → AllByRecursion (IsHeldBack flags) xs → AllByRecursion (IsHeld flags) (waiting_of xs)
+held_pairs : (flags : List Bool) (xs : List Submission) → AllByRecursion (IsHeldBack flags) xs → AllByRecursion (IsHeld flags) (waiting_of xs)
 held_pairs flags [] h = tt
 held_pairs flags (x ∷ xs) h = by_test x.queued _
     (λ t. rw t (h.0 t, held_pairs flags xs h.1))
     (λ f. rw f (held_pairs flags xs h.1))
+
+pub held_queue : (x : IopmpUnit) (items : List Submission) → Agrees x items → AllByRecursion (IsHeld x.stall.flags) x.queue.items
+held_queue x items t = subst (AllByRecursion (IsHeld x.stall.flags)) (sym t.queue) (held_pairs x.stall.flags items t.held)
 
 stays_known : (flags : List Bool) (k : ℕ) (xs : List QueuedSubmission) → AllByRecursion (λ (w : QueuedSubmission). w.rrid < k) xs → filter (stays_until flags k) xs ≡ filter (λ (w : QueuedSubmission). flag_of flags w.rrid) xs
 stays_known flags k [] h = refl
