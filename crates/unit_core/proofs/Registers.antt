@@ -10,9 +10,9 @@ use Rattle.std.proofs.lemmas.Bool.{cond_both, cases_eq, cases_lt}
 use Rattle.event_words.specs.declared.shape.Shape.{Shape}
 use Rattle.event_words.specs.declared.access.Access.{Access}
 use Rattle.event_words.specs.declared.reply.Denial.{Denial}
-use Rattle.event_words.specs.Registers.{Registers, word_at, merged, written, write_at, register_at, at_reset, reset_of, reset_word, index_count, has_bit}
+use Rattle.event_words.specs.Registers.{Registers, index_of, word_at, merged, written, write_at, register_at, at_reset, reset_of, reset_word, index_count, has_bit}
 use Rattle.event_words.specs.declared.register.Register.{Register}
-use Rattle.event_words.specs.declared.register.Register.TheVariants.{Hwcfg0, Hwcfg1, Hwcfg2, ErrInfo}
+use Rattle.event_words.specs.declared.register.Register.TheVariants.{Hwcfg0, Hwcfg1, Hwcfg2, Mdstall, ErrInfo, ErrReqaddr, ErrReqaddrh, ErrReqid}
 use Rattle.event_words.specs.Word.{kind_code}
 use Rattle.event_words.specs.Guards.{reg}
 use Rattle.event_words.specs.Denials.{recorded, with_error}
@@ -27,21 +27,21 @@ recorded_cases P r a d p q =
     r P (λ e. p _ _ _ _) (λ e. q)
 
 -- A capture leaves the other registers.
-with_error_other : (r : Registers) (info addr addrh id j : ℕ) → (j ≡ 25 → ⊥) → (j ≡ 26 → ⊥) → (j ≡ 27 → ⊥) → (j ≡ 28 → ⊥) → word_at (with_error r info addr addrh id) j ≡ word_at r j
+with_error_other : (r : Registers) (info addr addrh id j : ℕ) → (j ≡ index_of ErrInfo → ⊥) → (j ≡ index_of ErrReqaddr → ⊥) → (j ≡ index_of ErrReqaddrh → ⊥) → (j ≡ index_of ErrReqid → ⊥) → word_at (with_error r info addr addrh id) j ≡ word_at r j
 with_error_other r info addr addrh id j p q s t =
-    get_or-set_other (set (set (set r.words 25 info) 26 addr) 27 addrh) 28 j id 0 t ∙ get_or-set_other (set (set r.words 25 info) 26 addr) 27 j addrh 0 s
-    ∙ get_or-set_other (set r.words 25 info) 26 j addr 0 q ∙ get_or-set_other r.words 25 j info 0 p
+    get_or-set_other (set (set (set r.words (index_of ErrInfo) info) (index_of ErrReqaddr) addr) (index_of ErrReqaddrh) addrh) (index_of ErrReqid) j id 0 t ∙ get_or-set_other (set (set r.words (index_of ErrInfo) info) (index_of ErrReqaddr) addr) (index_of ErrReqaddrh) j addrh 0 s
+    ∙ get_or-set_other (set r.words (index_of ErrInfo) info) (index_of ErrReqaddr) j addr 0 q ∙ get_or-set_other r.words (index_of ErrInfo) j info 0 p
 
-pub recorded_other : (r : Registers) (a : Access) (d : Denial) (j : ℕ) → (j ≡ 25 → ⊥) → (j ≡ 26 → ⊥) → (j ≡ 27 → ⊥) → (j ≡ 28 → ⊥) → word_at (recorded r a d) j ≡ word_at r j
+pub recorded_other : (r : Registers) (a : Access) (d : Denial) (j : ℕ) → (j ≡ index_of ErrInfo → ⊥) → (j ≡ index_of ErrReqaddr → ⊥) → (j ≡ index_of ErrReqaddrh → ⊥) → (j ≡ index_of ErrReqid → ⊥) → word_at (recorded r a d) j ≡ word_at r j
 recorded_other r a d j p q s t =
     recorded_cases (λ n. word_at n j ≡ word_at r j) r a d (λ info addr addrh id. with_error_other r info addr addrh id j p q s t) refl
 
 -- so outside the record of errors
-pub recorded_outside : (r : Registers) (a : Access) (d : Denial) (j : ℕ) → (j < 25) ⊎ (28 < j) → word_at (recorded r a d) j ≡ word_at r j
-recorded_outside r a d j out = recorded_other r a d j (apart 25 (omega arith) (omega arith)) (apart 26 (omega arith) (omega arith)) (apart 27 (omega arith) (omega arith)) (apart 28 (omega arith) (omega arith))
+pub recorded_outside : (r : Registers) (a : Access) (d : Denial) (j : ℕ) → (j < index_of ErrInfo) ⊎ (index_of ErrReqid < j) → word_at (recorded r a d) j ≡ word_at r j
+recorded_outside r a d j out = recorded_other r a d j (apart (index_of ErrInfo) (omega arith) (omega arith)) (apart (index_of ErrReqaddr) (omega arith) (omega arith)) (apart (index_of ErrReqaddrh) (omega arith) (omega arith)) (apart (index_of ErrReqid) (omega arith) (omega arith))
   where
-    apart : (k : ℕ) → 25 ≤ k → k ≤ 28 → j ≡ k → ⊥
-    apart k l u e = ⊎_elim (λ (low : j < 25). absurd (omega arith)) (λ (high : 28 < j). absurd (omega arith)) out
+    apart : (k : ℕ) → index_of ErrInfo ≤ k → k ≤ index_of ErrReqid → j ≡ k → ⊥
+    apart k l u e = ⊎_elim (λ (low : j < index_of ErrInfo). absurd (omega arith)) (λ (high : index_of ErrReqid < j). absurd (omega arith)) out
 
 -- A word that is stored is there, or 0 past the end.
 pub stored : (P : ℕ → Type 0) (ws : List ℕ) (i n : ℕ) → P n → P 0 → P (get_or (set ws i n) i 0)
@@ -63,25 +63,25 @@ merged_even keep old new p q =
 doubled : (n : ℕ) → bit_at (0 + n * 2 ^ 1) 0 ≡ 0
 doubled n = omega arith
 
-pub written_even : (r : Registers) (index value keep : ℕ) → bit_at (word_at r 12) 0 ≡ 0 → bit_at (word_at (written r index value keep) 12) 0 ≡ 0
+pub written_even : (r : Registers) (index value keep : ℕ) → bit_at (reg r Mdstall) 0 ≡ 0 → bit_at (reg (written r index value keep) Mdstall) 0 ≡ 0
 written_even r index value keep h = ⊎_elim
-    (λ (e : index ≡ 12). subst (λ i. bit_at (word_at (written r i value keep) 12) 0 ≡ 0) (sym e)
-    (stored (λ n. bit_at n 0 ≡ 0) r.words 12 _ (merged_even keep (word_at r 12) _ h (doubled _)) refl))
-    (λ (ne : index ≡ 12 → ⊥). subst (λ n. bit_at n 0 ≡ 0) (sym (other_stays r index value keep 12 (register_at r.shape index) (λ e. ne (sym e)))) h)
-    (cases_eq index 12)
+    (λ (e : index ≡ index_of Mdstall). subst (λ i. bit_at (reg (written r i value keep) Mdstall) 0 ≡ 0) (sym e)
+    (stored (λ n. bit_at n 0 ≡ 0) r.words (index_of Mdstall) _ (merged_even keep (reg r Mdstall) _ h (doubled _)) refl))
+    (λ (ne : index ≡ index_of Mdstall → ⊥). subst (λ n. bit_at n 0 ≡ 0) (sym (other_stays r index value keep (index_of Mdstall) (register_at r.shape index) (λ e. ne (sym e)))) h)
+    (cases_eq index (index_of Mdstall))
 
-pub recorded_even : (r : Registers) (a : Access) (d : Denial) → bit_at (word_at r 12) 0 ≡ 0 → bit_at (word_at (recorded r a d) 12) 0 ≡ 0
+pub recorded_even : (r : Registers) (a : Access) (d : Denial) → bit_at (reg r Mdstall) 0 ≡ 0 → bit_at (reg (recorded r a d) Mdstall) 0 ≡ 0
 recorded_even r a d h =
-    subst (λ n. bit_at n 0 ≡ 0) (sym (recorded_other r a d 12 (λ e. absurd (omega arith)) (λ e. absurd (omega arith)) (λ e. absurd (omega arith)) (λ e. absurd (omega arith)))) h
+    subst (λ n. bit_at n 0 ≡ 0) (sym (recorded_other r a d (index_of Mdstall) (λ e. absurd (omega arith)) (λ e. absurd (omega arith)) (λ e. absurd (omega arith)) (λ e. absurd (omega arith)))) h
 
-pub reset_even : (h : Shape) → bit_at (word_at (at_reset h) 12) 0 ≡ 0
-reset_even h = subst (λ n. bit_at n 0 ≡ 0) (sym (get_or-map-range_with_len (reset_word h) 0 (index_count h) 12 12 0 (omega arith) (omega arith))) refl
+pub reset_even : (h : Shape) → bit_at (reg (at_reset h) Mdstall) 0 ≡ 0
+reset_even h = subst (λ n. bit_at n 0 ≡ 0) (sym (get_or-map-range_with_len (reset_word h) 0 (index_count h) (index_of Mdstall) (index_of Mdstall) 0 (omega arith) (omega arith))) refl
 
 -- ---- words of 32 bits
 
 -- each word, but for those of the record of errors, which take what any submission says
 abbrev pub AreWords : Registers → Type 0
-AreWords r = (j : ℕ) → (j < 25) ⊎ (28 < j) → word_at r j < 2 ^ 32
+AreWords r = (j : ℕ) → (j < index_of ErrInfo) ⊎ (index_of ErrReqid < j) → word_at r j < 2 ^ 32
 
 merged_below : (keep old new : ℕ) → old < 2 ^ 32 → merged keep old new < 2 ^ 32
 merged_below keep old new small =

@@ -4,7 +4,8 @@ use Rattle.std.proofs.lemmas.Bool.Decides.{nat_tests}
 use Rattle.event_words.specs.declared.access.Access.{Access}
 use Rattle.event_words.specs.declared.reply.Denial.{Denial}
 use Rattle.event_words.specs.declared.register.Register.{Register}
-use Rattle.event_words.specs.Registers.{Registers, write_at, register_at, has_bit}
+use Rattle.event_words.specs.declared.register.Register.TheVariants.{Mdstall, Rridscp, ErrInfo}
+use Rattle.event_words.specs.Registers.{Registers, index_of, write_at, register_at, has_bit}
 use Rattle.event_words.specs.Guards.{guarded_bits, reg}
 use Rattle.event_words.specs.Denials.{recorded}
 use Rattle.event_words.specs.Stalls.{flag_of, flags_after, flags_after_rridscp, differs, is_selected}
@@ -38,7 +39,7 @@ written_shape r index value keep None = refl
 written_shape r index value keep (Some q) = refl
 
 pub recorded_shape : (r : Registers) (a : Access) (d : Denial) → (recorded r a d).shape ≡ r.shape
-recorded_shape r a d = by_test (d.kept && not (has_bit (reg r Rattle.event_words.specs.declared.register.Register.TheVariants.ErrInfo) 0)) _ (λ t. rw t refl) (λ f. rw f refl)
+recorded_shape r a d = by_test (d.kept && not (has_bit (reg r ErrInfo) 0)) _ (λ t. rw t refl) (λ f. rw f refl)
 
 after_rridscp_len : (flags : List Bool) (value : ℕ) → length (flags_after_rridscp flags value) ≡ length flags
 after_rridscp_len flags value = by_test (eqb (value / 2 ^ 30) 1) _
@@ -46,9 +47,9 @@ after_rridscp_len flags value = by_test (eqb (value / 2 ^ 30) 1) _
     (λ f. by_test (eqb (value / 2 ^ 30) 2) _ (λ t. rw (f, t) (length-set flags (value % 2 ^ 16) false)) (λ g. rw (f, g) refl))
 
 pub flags_after_len : (r : Registers) (flags : List Bool) (index value : ℕ) → length flags ≡ r.shape.rrids → length (flags_after r flags index value) ≡ r.shape.rrids
-flags_after_len r flags index value h = by_test (eqb index 12) _
+flags_after_len r flags index value h = by_test (eqb index (index_of Mdstall)) _
     (λ t. rw t (length-map-range_with_len (λ s. differs (has_bit value 0) (is_selected r value s)) 0 r.shape.rrids))
-    (λ f. by_test (eqb index 14) _ (λ t. rw (f, t) (after_rridscp_len flags value ∙ h)) (λ g. rw (f, g) h))
+    (λ f. by_test (eqb index (index_of Rridscp)) _ (λ t. rw (f, t) (after_rridscp_len flags value ∙ h)) (λ g. rw (f, g) h))
 
 -- ---- a write
 

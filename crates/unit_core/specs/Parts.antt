@@ -1,7 +1,6 @@
 -- What the parts of one unit do: its registers, its stall state and its queue, without the words
 -- of open submissions.
 use Rattle.std.specs.Prelude.{◌≡◌, ℕ, ◌+◌, ◌*◌, ◌^◌, ◌==◌, ◌&&◌, ◌||◌, nat_lt, Bool, true, false, not, List, [], ◌∷◌, ◌++◌, if◌then◌else◌, filter, count_by, length, unwrap_or}
-use Rattle.event_words.specs.Registers.{count_of_bool}
 use Rattle.event_words.specs.declared.access.Access.{Access}
 use Rattle.event_words.specs.declared.reply.Denial.{Denial}
 use Rattle.event_words.specs.declared.reply.Decision.{Decision}
@@ -10,8 +9,8 @@ use Rattle.event_words.specs.declared.reply.Verdict.{Verdict}
 use Rattle.event_words.specs.declared.reply.Verdict.TheVariants as verdicts
 use Rattle.event_words.specs.declared.reply.Reply.{Reply}
 use Rattle.event_words.specs.declared.reply.Reply.TheVariants as replies
-use Rattle.event_words.specs.declared.register.Register.TheVariants.{ErrCfg}
-use Rattle.event_words.specs.Registers.{written, word_at, has_bit}
+use Rattle.event_words.specs.declared.register.Register.TheVariants.{Mdstall, Rridscp, ErrCfg}
+use Rattle.event_words.specs.Registers.{written, index_of, word_at, has_bit, count_of_bool}
 use Rattle.event_words.specs.Guards.{guarded_bits, reg}
 use Rattle.event_words.specs.Denials.{denial, recorded}
 use Rattle.event_words.specs.Stalls.{flag_of, flags_after}
@@ -25,8 +24,8 @@ use Rattle.unit_core.specs.Units.{stall_code}
 
 abbrev pub part_read : IopmpUnit → ℕ → ℕ
 part_read x index =
-    if index == 12 then word_at x.regs index + count_of_bool (is_busy_with x.stall.flags x.stall.counts)
-    else (if index == 14 then word_at x.regs index + stall_code x.regs x.stall.flags (word_at x.regs index) * 2 ^ 30
+    if index == index_of Mdstall then word_at x.regs index + count_of_bool (is_busy_with x.stall.flags x.stall.counts)
+    else (if index == index_of Rridscp then word_at x.regs index + stall_code x.regs x.stall.flags (word_at x.regs index) * 2 ^ 30
     else word_at x.regs index)
 
 -- the requester of a queued submission is stalled
@@ -35,7 +34,7 @@ IsHeld flags w = flag_of flags w.rrid ≡ true
 
 -- a write to this index may change flags
 abbrev pub changes_flags : ℕ → Bool
-changes_flags index = (index == 12) || (index == 14)
+changes_flags index = (index == index_of Mdstall) || (index == index_of Rridscp)
 
 -- what a release of the requesters below k leaves in the queue
 abbrev pub stays_until : List Bool → ℕ → QueuedSubmission → Bool
