@@ -1,5 +1,5 @@
 -- Bit 0 of ERR_INFO, one place on.
-use Rattle.std.proofs.Common.{◌≡◌, ℕ, suc, ◌+◌, ◌*◌, ◌/◌, ◌%◌, ◌^◌, ◌≤◌, Bool, true, false, not, ◌&&◌, ◌||◌, cond, eqb, ltb, Option, Some, None, length, set, arith, refl, sym, ap, ◌∙◌, subst, ⊎_elim}
+use Rattle.std.proofs.Common.{◌≡◌, ℕ, suc, ◌+◌, ◌*◌, ◌/◌, ◌%◌, ◌^◌, ◌<◌, Bool, true, false, not, ◌&&◌, ◌||◌, cond, eqb, ltb, Option, Some, None, length, set, arith, refl, sym, ap, ◌∙◌, subst, ⊎_elim}
 use Rattle.std.specs.Prelude.{slice_get, option_map}
 use Rattle.std.proofs.lemmas.Bool.{cond_both, cases_eq, eq-eqb, ne_eqb, and_parts, and_cases, not-false, or_left, or_right, cond-true, cond-false}
 use Rattle.std.proofs.lemmas.List.{get_or-set_same, get_or-set_other, length-set}
@@ -14,9 +14,9 @@ use Rattle.event_words.specs.declared.reply.Reply.TheVariants as replies
 use Rattle.event_words.specs.declared.event.Event.{Event}
 use Rattle.event_words.specs.declared.event.Event.TheVariants.{RegWrite, RegRead, Submit, Judge, Aim, Wide}
 use Rattle.event_words.specs.declared.register.Register.{Register}
-use Rattle.event_words.specs.declared.register.Register.TheVariants.{ErrInfo, ErrCfg}
+use Rattle.event_words.specs.declared.register.Register.TheVariants.{ErrInfo, ErrReqaddr, ErrReqaddrh, ErrReqid, ErrCfg}
 use Rattle.event_words.specs.Events.{unit_of}
-use Rattle.event_words.specs.Registers.{Registers, word_at, has_bit, write_at, register_at, reset_word, index_count}
+use Rattle.event_words.specs.Registers.{Registers, index_of, has_bit, write_at, register_at, reset_word, index_count}
 use Rattle.event_words.specs.Word.{kind_code}
 use Rattle.event_words.specs.Guards.{reg, guarded_bits}
 use Rattle.event_words.specs.Decisions.{decision}
@@ -34,7 +34,7 @@ use Rattle.std.proofs.Common.{find}
 -- ---- the error registers are among the words of a unit
 
 abbrev IsWide : Registers → Type 0
-IsWide r = 29 ≤ length r.words
+IsWide r = index_of ErrReqid < length r.words
 
 write_wide : (r : Registers) (index value keep : ℕ) (o : Option Register) → IsWide r → IsWide (write_at r index value keep o)
 write_wide r index value keep None l = l
@@ -42,10 +42,10 @@ write_wide r index value keep (Some q) l = omega (arith, length-set {A = ℕ})
 
 error_wide : (r : Registers) (info addr addrh id : ℕ) → IsWide r → IsWide (with_error r info addr addrh id)
 error_wide r info addr addrh id l =
-    let a = length-set r.words 25 info in
-    let b = length-set (set r.words 25 info) 26 addr in
-    let c = length-set (set (set r.words 25 info) 26 addr) 27 addrh in
-    let d = length-set (set (set (set r.words 25 info) 26 addr) 27 addrh) 28 id in
+    let a = length-set r.words (index_of ErrInfo) info in
+    let b = length-set (set r.words (index_of ErrInfo) info) (index_of ErrReqaddr) addr in
+    let c = length-set (set (set r.words (index_of ErrInfo) info) (index_of ErrReqaddr) addr) (index_of ErrReqaddrh) addrh in
+    let d = length-set (set (set (set r.words (index_of ErrInfo) info) (index_of ErrReqaddr) addr) (index_of ErrReqaddrh) addrh) (index_of ErrReqid) id in
     omega arith
 
 recorded_wide : (r : Registers) (a : Access) (d : Denial) → IsWide r → IsWide (recorded r a d)
@@ -87,7 +87,7 @@ holds x = has_bit (reg x.registers ErrInfo) 0
 
 -- the bit after an event with this reply
 abbrev pub bit_after : Bool → Event → Reply → Bool
-bit_after b (RegWrite unit caller index value) (replies.Value word) = cond (eqb index 25) (has_bit word 0) b
+bit_after b (RegWrite unit caller index value) (replies.Value word) = cond (eqb index (index_of ErrInfo)) (has_bit word 0) b
 bit_after b (RegWrite unit caller index value) _ = b
 bit_after b (Submit unit caller access) reply = b || is_kept_violation reply
 bit_after b (Judge unit caller place) reply = b || is_kept_violation reply
@@ -97,10 +97,10 @@ pub or_false : (b : Bool) → b ≡ (b || false)
 or_false true = refl
 or_false false = refl
 
-error_word : (r : Registers) (info addr addrh id : ℕ) → IsWide r → word_at (with_error r info addr addrh id) 25 ≡ info
+error_word : (r : Registers) (info addr addrh id : ℕ) → IsWide r → reg (with_error r info addr addrh id) ErrInfo ≡ info
 error_word r info addr addrh id l =
-    get_or-set_other (set (set (set r.words 25 info) 26 addr) 27 addrh) 28 25 id 0 (λ e. absurd (omega arith)) ∙ (get_or-set_other (set (set r.words 25 info) 26 addr) 27 25 addrh 0 (λ e. absurd (omega arith))
-    ∙ (get_or-set_other (set r.words 25 info) 26 25 addr 0 (λ e. absurd (omega arith)) ∙ get_or-set_same r.words 25 info 0 (omega arith)))
+    get_or-set_other (set (set (set r.words (index_of ErrInfo) info) (index_of ErrReqaddr) addr) (index_of ErrReqaddrh) addrh) (index_of ErrReqid) (index_of ErrInfo) id 0 (λ e. absurd (omega arith)) ∙ (get_or-set_other (set (set r.words (index_of ErrInfo) info) (index_of ErrReqaddr) addr) (index_of ErrReqaddrh) (index_of ErrInfo) addrh 0 (λ e. absurd (omega arith))
+    ∙ (get_or-set_other (set r.words (index_of ErrInfo) info) (index_of ErrReqaddr) (index_of ErrInfo) addr 0 (λ e. absurd (omega arith)) ∙ get_or-set_same r.words (index_of ErrInfo) info 0 (omega arith)))
 
 odd : (c d : ℕ) → has_bit (1 + 2 * (1 + c) + 16 * d) 0 ≡ true
 odd c d = eq-eqb _ 1 (omega arith)
@@ -135,12 +135,12 @@ item_bit x place caller (Some item) l =
     cond_both item.queued _ _ (λ (r : UnitState × Reply). holds r.0 ≡ (holds x || is_kept_violation r.1))
     (λ e. or_false (holds x)) (λ e. verdict_bit (closed place caller x) item.access (decision x.registers item.access) l)
 
-write_bit : (x : UnitState) (index value : ℕ) → holds (after_write x index value) ≡ cond (eqb index 25) (has_bit (read_value (after_write x index value) index) 0) (holds x)
+write_bit : (x : UnitState) (index value : ℕ) → holds (after_write x index value) ≡ cond (eqb index (index_of ErrInfo)) (has_bit (read_value (after_write x index value) index) 0) (holds x)
 write_bit x index value = ⊎_elim
-    (λ (e : index ≡ 25). subst (λ i. holds (after_write x i value) ≡ cond (eqb i 25) (has_bit (read_value (after_write x i value) i) 0) (holds x)) (sym e) refl)
-    (λ (ne : index ≡ 25 → ⊥). ap (λ n. has_bit n 0) (other_stays x.registers index value (guarded_bits x.registers index) 25 (register_at x.registers.shape index) (λ e. ne (sym e)))
-    ∙ sym (cond-false (eqb index 25) _ (holds x) (ne_eqb index 25 ne)))
-    (cases_eq index 25)
+    (λ (e : index ≡ index_of ErrInfo). subst (λ i. holds (after_write x i value) ≡ cond (eqb i (index_of ErrInfo)) (has_bit (read_value (after_write x i value) i) 0) (holds x)) (sym e) refl)
+    (λ (ne : index ≡ index_of ErrInfo → ⊥). ap (λ n. has_bit n 0) (other_stays x.registers index value (guarded_bits x.registers index) (index_of ErrInfo) (register_at x.registers.shape index) (λ e. ne (sym e)))
+    ∙ sym (cond-false (eqb index (index_of ErrInfo)) _ (holds x) (ne_eqb index (index_of ErrInfo) ne)))
+    (cases_eq index (index_of ErrInfo))
 
 step_bit : (k : ℕ) (x : UnitState) (e : Event) → IsWide x.registers → holds (unit_step k x e).0 ≡ bit_after (holds x) e (unit_step k x e).1
 step_bit k x (RegWrite unit caller index value) l = write_bit x index value

@@ -12,7 +12,8 @@ use Rattle.event_words.specs.declared.event.Event.TheVariants.{RegWrite, RegRead
 use Rattle.event_words.specs.declared.reply.Reply.{Reply}
 use Rattle.event_words.specs.declared.reply.Reply.TheVariants as replies
 use Rattle.event_words.specs.Events.{unit_of}
-use Rattle.event_words.specs.Registers.{has_bit}
+use Rattle.event_words.specs.declared.register.Register.TheVariants.{ErrInfo}
+use Rattle.event_words.specs.Registers.{index_of, has_bit}
 use Rattle.event_words.proofs.Cases.{by_test}
 use Rattle.unit_core.specs.Units.{taken_as, wide_access, taken_step, event_step}
 use Rattle.unit_core.specs.Histories.{History, units_at, aims_at, state_at, event_at, reply_at}
@@ -21,7 +22,7 @@ use Rattle.unit_core.proofs.Lists.{filter_both}
 use Rattle.fault_windows.specs.declared.Shown.{Shown}
 use Rattle.fault_windows.specs.declared.monitor.UnitFaults.{UnitFaults}
 use Rattle.fault_windows.specs.LateViolations.{requester_of, is_kept_violation, is_recorded, is_late}
-use Rattle.fault_windows.specs.Windows.{reads_windows, is_reading, window_of, is_in_window, window_bits, next_window, pending_at, turn_at, window_at, shown_at}
+use Rattle.fault_windows.specs.Windows.{windows_index, reads_windows, is_reading, window_of, is_in_window, window_bits, next_window, pending_at, turn_at, window_at, shown_at}
 use Rattle.fault_windows.specs.Monitors.{requester_at, IsPlace, shown_by}
 use Rattle.fault_windows.specs.Kept.{requesters_in, HasSeenUnit, HasSeenOn, violated, answered, rewritten, shown_window, IsShown}
 use Rattle.fault_windows.proofs.Tests.{same_passes, eqb_turned}
@@ -44,7 +45,7 @@ shown_pending h u k w old new e n late f =
     ∙ (ap (λ b. has_bit old s && b) (turned_test w s) ∙ (ap (λ o. has_bit old s && not (option_eq nat_eq o (Some (window_of s)))) (sym n)
     ∙ ap (λ b. b || (has_bit old s && not (option_eq nat_eq (window_at h u k) (Some (window_of s))))) (sym (late s)))))
 
-pub reading_seen : (h : History) (k unit caller : ℕ) (r : Reply) (x y : UnitFaults) (shown : Option Shown) → event_at h k ≡ Some (RegRead unit caller 29) → reply_at h k ≡ Some r
+pub reading_seen : (h : History) (k unit caller : ℕ) (r : Reply) (x y : UnitFaults) (shown : Option Shown) → event_at h k ≡ Some (RegRead unit caller windows_index) → reply_at h k ≡ Some r
     → HasSeenUnit h k unit x → IsShown unit (shown_window x) x y shown → HasSeenUnit h (suc k) unit y × (shown ≡ shown_at h unit k)
 reading_seen h k unit caller r x y shown p q seen = by_window (shown_window x) refl
   where
@@ -55,10 +56,10 @@ reading_seen h k unit caller r x y shown p q seen = by_window (shown_window x) r
     window = window_here h unit k reads ∙ (ap (λ t. next_window t (pending_at h unit k)) (sym seen.turn) ∙ ap (next_window x.turn) (sym seen.pending))
 
     late : (s : ℕ) → is_late h unit s k ≡ false
-    late s = late_nobody h unit s k (RegRead unit caller 29) r (taken_is h k (RegRead unit caller 29) p) q refl
+    late s = late_nobody h unit s k (RegRead unit caller windows_index) r (taken_is h k (RegRead unit caller windows_index) p) q refl
 
     bit : is_recorded (state_at h (suc k) unit) ≡ is_recorded (state_at h k unit)
-    bit = recorded_next h k unit (RegRead unit caller 29) r (taken_is h k (RegRead unit caller 29) p) q refl
+    bit = recorded_next h k unit (RegRead unit caller windows_index) r (taken_is h k (RegRead unit caller windows_index) p) q refl
 
     by_window : (o : Option ℕ) → shown_window x ≡ o → IsShown unit o x y shown → HasSeenUnit h (suc k) unit y × (shown ≡ shown_at h unit k)
     by_window None e s = (
@@ -78,11 +79,11 @@ reading_seen h k unit caller r x y shown p q seen = by_window (shown_window x) r
 pub no_shown : (h : History) (u k : ℕ) → is_reading h u k ≡ false → None ≡ shown_at h u k
 no_shown h u k f = ap (option_map (λ w. record { unit = u; window = w; bits = window_bits (pending_at h u k) w })) (sym (window_none h u k f))
 
-pub elsewhere_reads : (u k : ℕ) (h : History) (caller index : ℕ) → event_at h k ≡ Some (RegRead u caller index) → (index ≡ 29 → ⊥) → is_reading h u k ≡ false
-elsewhere_reads u k h caller index p ne = ap (reads_windows u) p ∙ and_right (eqb u u) _ (ne_eqb index 29 ne)
+pub elsewhere_reads : (u k : ℕ) (h : History) (caller index : ℕ) → event_at h k ≡ Some (RegRead u caller index) → (index ≡ windows_index → ⊥) → is_reading h u k ≡ false
+elsewhere_reads u k h caller index p ne = ap (reads_windows u) p ∙ and_right (eqb u u) _ (ne_eqb index windows_index ne)
 
 -- a read of another register
-pub read_seen : (h : History) (k unit caller index : ℕ) (r : Reply) (x : UnitFaults) → event_at h k ≡ Some (RegRead unit caller index) → reply_at h k ≡ Some r → (index ≡ 29 → ⊥)
+pub read_seen : (h : History) (k unit caller index : ℕ) (r : Reply) (x : UnitFaults) → event_at h k ≡ Some (RegRead unit caller index) → reply_at h k ≡ Some r → (index ≡ windows_index → ⊥)
     → HasSeenUnit h k unit x → HasSeenUnit h (suc k) unit x
 read_seen h k unit caller index r x p q ne seen =
     quiet h unit k x x seen (window_none h unit k (elsewhere_reads unit k h caller index p ne)) (λ s. late_nobody h unit s k (RegRead unit caller index) r (taken_is h k (RegRead unit caller index) p) q refl) refl refl
@@ -91,15 +92,15 @@ read_seen h k unit caller index r x p q ne seen =
 -- ---- writes
 
 rewritten_pending : (x : UnitFaults) (index : ℕ) (r : Reply) → (rewritten x index r).pending ≡ x.pending
-rewritten_pending x index (replies.Value word) = by_test (eqb index 25) _ (λ e. rw e refl) (λ e. rw e refl)
+rewritten_pending x index (replies.Value word) = by_test (eqb index (index_of ErrInfo)) _ (λ e. rw e refl) (λ e. rw e refl)
 rewritten_pending x index r = refl
 
 rewritten_turn : (x : UnitFaults) (index : ℕ) (r : Reply) → (rewritten x index r).turn ≡ x.turn
-rewritten_turn x index (replies.Value word) = by_test (eqb index 25) _ (λ e. rw e refl) (λ e. rw e refl)
+rewritten_turn x index (replies.Value word) = by_test (eqb index (index_of ErrInfo)) _ (λ e. rw e refl) (λ e. rw e refl)
 rewritten_turn x index r = refl
 
 rewritten_bit : (x : UnitFaults) (unit caller index value : ℕ) (r : Reply) → (rewritten x index r).recorded ≡ bit_after x.recorded (RegWrite unit caller index value) r
-rewritten_bit x unit caller index value (replies.Value word) = by_test (eqb index 25) _ (λ e. rw e refl) (λ e. rw e refl)
+rewritten_bit x unit caller index value (replies.Value word) = by_test (eqb index (index_of ErrInfo)) _ (λ e. rw e refl) (λ e. rw e refl)
 rewritten_bit x unit caller index value r = refl
 
 pub write_seen : (h : History) (k unit caller index value : ℕ) (r : Reply) (x : UnitFaults) → event_at h k ≡ Some (RegWrite unit caller index value) → reply_at h k ≡ Some r
@@ -187,13 +188,13 @@ abbrev pub IsNext : History → ℕ → ℕ → Event → Reply → UnitFaults �
 IsNext h k s e r x y shown =
     HasSeenOn h k (unit_of e) x → IsPlace h k e s r → HasSeenOn h (suc k) (unit_of e) y × (shown ≡ shown_by h k e)
 
-pub seen_shown : (h : History) (k s unit caller index : ℕ) (e : Event) (r : Reply) (x y : UnitFaults) (shown : Option Shown) → e ≡ RegRead unit caller index → index ≡ 29 → IsShown unit (shown_window x) x y shown
+pub seen_shown : (h : History) (k s unit caller index : ℕ) (e : Event) (r : Reply) (x y : UnitFaults) (shown : Option Shown) → e ≡ RegRead unit caller index → index ≡ windows_index → IsShown unit (shown_window x) x y shown
     → IsNext h k s e r x y shown
 seen_shown h k s unit caller index e r x y shown q i shows =
     subst (λ d. IsNext h k s d r x y shown) (sym q)
     (λ seen at. reading_seen h k unit caller r x y shown (at.event_is ∙ ap (λ n. Some (RegRead unit caller n)) i) at.reply_is seen shows)
 
-pub seen_read : (h : History) (k s unit caller index : ℕ) (e : Event) (r : Reply) (x : UnitFaults) → e ≡ RegRead unit caller index → (index ≡ 29 → ⊥) → IsNext h k s e r x x None
+pub seen_read : (h : History) (k s unit caller index : ℕ) (e : Event) (r : Reply) (x : UnitFaults) → e ≡ RegRead unit caller index → (index ≡ windows_index → ⊥) → IsNext h k s e r x x None
 seen_read h k s unit caller index e r x q ne =
     subst (λ d. IsNext h k s d r x x None) (sym q)
     (λ seen at. (read_seen h k unit caller index r x at.event_is at.reply_is ne seen, no_shown h unit k (elsewhere_reads unit k h caller index at.event_is ne)))

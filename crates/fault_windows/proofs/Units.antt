@@ -12,7 +12,7 @@ use Rattle.event_words.specs.declared.reply.Reply.{Reply}
 use Rattle.event_words.specs.declared.register.Register.TheVariants.{ErrInfo}
 use Rattle.event_words.specs.Events.{unit_of}
 use Rattle.event_words.specs.Valid.{IsValidEvent}
-use Rattle.event_words.specs.Registers.{has_bit, reset_word, index_count, at_reset}
+use Rattle.event_words.specs.Registers.{index_of, has_bit, reset_word, index_count, at_reset}
 use Rattle.event_words.specs.Guards.{reg}
 use Rattle.unit_core.specs.Units.{unit_at_reset}
 use Rattle.unit_core.specs.Histories.{History, state_at}
@@ -102,7 +102,7 @@ none_next h k s e r m at on seen =
 -- ---- before the first event
 
 reset_bit : (shape : Shape) → has_bit (reg (at_reset shape) ErrInfo) 0 ≡ false
-reset_bit shape = subst (λ n. has_bit n 0 ≡ false) (sym (get_or-map-range_with_len (reset_word shape) 0 (index_count shape) 25 25 0 (omega arith) (omega arith))) refl
+reset_bit shape = subst (λ n. has_bit n 0 ≡ false) (sym (get_or-map-range_with_len (reset_word shape) 0 (index_count shape) (index_of ErrInfo) (index_of ErrInfo) 0 (omega arith) (omega arith))) refl
 
 first_bit : (h : History) (u : ℕ) → is_recorded (state_at h 0 u) ≡ false
 first_bit h u = ap is_recorded (slice_get-map unit_at_reset h.shapes u) ∙ by_shape (slice_get h.shapes u)

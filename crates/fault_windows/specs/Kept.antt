@@ -3,7 +3,8 @@ use Rattle.std.specs.Prelude.{◌==◌, ◌≡◌, ℕ, ◌+◌, ◌%◌, ◌<�
 use Rattle.std.specs.List.{range_with_len, AllByRecursion}
 use Rattle.event_words.specs.declared.reply.Reply.{Reply}
 use Rattle.event_words.specs.declared.reply.Reply.TheVariants.{Value}
-use Rattle.event_words.specs.Registers.{has_bit}
+use Rattle.event_words.specs.declared.register.Register.TheVariants.{ErrInfo}
+use Rattle.event_words.specs.Registers.{index_of, has_bit}
 use Rattle.unit_core.specs.Histories.{History, state_at}
 use Rattle.fault_windows.specs.LateViolations.{is_kept_violation, is_recorded}
 use Rattle.fault_windows.specs.declared.monitor.UnitFaults.{UnitFaults}
@@ -51,7 +52,7 @@ answered u s reply = if is_kept_violation reply then violated u s else u
 
 -- a write replies the word that stands afterwards, here of ERR_INFO
 abbrev pub rewritten : UnitFaults → ℕ → Reply → UnitFaults
-rewritten u index (Value word) = if index == 25 then record u { recorded = has_bit word 0 } else u
+rewritten u index (Value word) = if index == index_of ErrInfo then record u { recorded = has_bit word 0 } else u
 rewritten u index _ = u
 
 -- the window that a reading shows, by the bits that are kept

@@ -9,12 +9,10 @@ ghost use Rattle.fault_windows.specs.Kept.{requesters_in, violated, answered, re
 ghost use Rattle.fault_windows.specs.Monitors.{HasSeen, IsPlace, shown_by};
 
 use crate::Shown;
-use event_words::{Event, Reply, Verdict};
+use event_words::{Event, Register, Reply, Verdict};
 use std::marker::Model;
 
-/// The indexes of ERR_INFO, whose bit 0 says that the error record holds a violation, and of the windows.
-const ERR_INFO: u32 = 25;
-
+/// The index of the windows, which are no register of a unit: byte offset 0x74.
 const WINDOWS: u32 = 29;
 
 /// What is kept of one unit: bit s of `pending` is requester s, `turn` is the window where the turn
@@ -79,12 +77,12 @@ impl UnitFaults {
         None
     }
 
-    /// A write of the unit's register at an index.
+    /// A write of the unit's register at an index. Bit 0 of ERR_INFO says that the error record holds a violation.
     fn rewrite(&mut self, index: u32, reply: &Reply)
         ensures { self.new ≡ rewritten self.old index reply.now }
     {
         if let Reply::Value(word) = *reply {
-            if index == ERR_INFO {
+            if index == Register::ErrInfo.index() {
                 self.recorded = word & 1 == 1;
             }
         }
