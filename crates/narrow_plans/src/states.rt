@@ -1,6 +1,7 @@
 // The states between two images, and the requesters whose view stays the same in all of them.
 ghost use Rattle.std.specs.Prelude.{◌≡◌, false, not, IfOk, IfSome};
 ghost use Rattle.event_words.specs.Valid.{IsValidShape};
+ghost use Rattle.event_words.specs.WellFormed.{IsWellFormed};
 ghost use Rattle.policy_compiler.specs.Laws.{guarded_write, registers_after};
 ghost use Rattle.narrow_plans.specs.Views.{view_of};
 ghost use Rattle.narrow_plans.specs.Unaffected.{has_view};
@@ -39,7 +40,8 @@ fn registers_after(alloc: Global, image: &Image) -> Result<Regs, NoMemory>
 
 /// Whether an entry of the unit is the requester's.
 fn is_own(regs: &Regs, rrid: u8, entry: u32) -> bool
-    ensures { result ≡ is_own regs.now rrid entry }
+    ensures value { result ≡ is_own regs.now rrid entry }
+    ensures well_formed { IsWellFormed regs.now }
 {
     if entry >= regs.shape().entries as u32 {
         return false;
@@ -69,7 +71,6 @@ fn entry_at(regs: &Regs, index: u32) -> Option<u32>
 fn can_change(regs: &Regs, rrid: u8, index: u32) -> bool
     ensures { result ≡ false → LeavesView regs.now index rrid }
 {
-    let _shape = regs.shape();
     match entry_at(regs, index) {
         None => true,
         Some(entry) => is_own(regs, rrid, entry) || is_own(regs, rrid, entry + 1),

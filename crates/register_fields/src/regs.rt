@@ -112,7 +112,8 @@ impl Regs {
     /// The word at an index (a byte offset divided by 4), and 0 where there is no register. For
     /// MDSTALL it is the selection with bit 0 clear, for RRIDSCP the selected requester alone.
     pub fn read(&self, index: u32) -> u32
-        ensures { result ≡ word_at self.now index }
+        ensures value { result ≡ word_at self.now index }
+        ensures well_formed { IsWellFormed self.now }
     {
         match self.words.get(index as usize) {
             Some(word) => *word,
@@ -123,7 +124,8 @@ impl Regs {
     /// The word of a register, and 0 where the shape doesn't have it.
     pub fn word(&self, register: Register) -> u32
         requires { index_of register < 2 ^ 32 }
-        ensures { result ≡ reg self.now register }
+        ensures value { result ≡ reg self.now register }
+        ensures well_formed { IsWellFormed self.now }
     {
         self.read(register.index())
     }

@@ -5,4 +5,4 @@ use Rattle.stall_control.proofs.selection.Goals as goal
 
 pub returns : goal.returns
 returns c = λ m. selection_bit c.args.regs.now c.args.value c.joined.result m
-    (c.joined.ensures.bits (m + 1) ∙ ap (λ high. has_pair_bit c.args.value high (m + 1)) c.word.ensures)
+    (c.joined.ensures.bits (m + 1) ∙ ap (λ high. has_pair_bit c.args.value high (m + 1)) c.word.ensures.value)

@@ -8,4 +8,4 @@ returns-in_err-range c =
 
 pub returns : goal.returns
 returns c =
-    seen_is c.args.regs.now c.args.rrid c.args.domain c.args.entry _ c.in_ok-range.range _ _ _ c.requires.owner c.requires.own c.in_ok-range.ensures (ap (λ w. w % 65536) c.word-priority_entries.ensures) c.granted.ensures c.granted-2.ensures c.granted-3.ensures
+    seen_is c.args.regs.now c.args.rrid c.args.domain c.args.entry _ c.in_ok-range.range _ _ _ c.requires.owner c.requires.own c.in_ok-range.ensures (ap (λ w. w % 65536) c.word-priority_entries.ensures.value) c.granted.ensures c.granted-2.ensures c.granted-3.ensures
