@@ -1,6 +1,9 @@
 -- A plan and refusals that are computed.
-use Rattle.std.proofs.Common.{◌≡◌, ℕ, true, false, List, [], ◌∷◌, codes, None, Some, refl}
+use Rattle.std.proofs.Common.{◌≡◌, ℕ, true, false, List, [], ◌∷◌, codes, None, Some, refl, ◌++◌}
 use lib.Count
+use Rattle.event_words.specs.Registers.{index_of}
+use Rattle.event_words.specs.declared.register.Register.TheVariants.{Hwcfg2, Mdstall, Mdcfg, SrcmdEn, SrcmdEnh, EntryAddr, EntryAddrh, EntryCfg}
+use Rattle.event_words.specs.declared.register.Register.{Register}
 use Rattle.event_words.specs.declared.shape.Shape.{Shape}
 use Rattle.event_words.specs.declared.section.Command.{Command}
 use Rattle.event_words.specs.declared.section.Command.TheVariants.{Write, Until}
@@ -34,25 +37,36 @@ policy_of domains entries guards grants = record { shape = shape_of domains entr
 abbrev planned : PolicyOf → PolicyOf → List Command
 planned old new = plan_commands (image_of old) (image_of new) 8
 
+abbrev write : Register → ℕ → Command
+write q value = Write 0 (index_of q) value
+
+-- all requesters stall, the tables are rewritten once no stalled access is in flight, and the stall ends
+abbrev drained_writes : List Command → List Command
+drained_writes writes = write Mdstall 1 ∷ Until 0 (index_of Mdstall) 1 0 8 ∷ (writes ++ write Mdstall 0 ∷ [])
+
+-- the writes of one entry, which may be read and written
+abbrev entry_writes : List Command
+entry_writes = write (EntryAddr 0) 0x200001ff ∷ write (EntryAddrh 0) 0 ∷ write (EntryCfg 0) 0x1b ∷ []
+
 -- a page may be written, too
 more_rights :
     planned (policy_of 1 1 [] (page 0x80000000 1 ∷ [])) (policy_of 1 1 [] (page 0x80000000 3 ∷ []))
-    ≡ Write 0 12 1 ∷ Until 0 12 1 0 8 ∷ Write 0 4 0 ∷ Write 0 512 1 ∷ Write 0 1024 2 ∷ Write 0 2048 0x200001ff ∷ Write 0 2049 0 ∷ Write 0 2050 0x1b ∷ Write 0 12 0 ∷ []
+    ≡ drained_writes (write Hwcfg2 0 ∷ write (Mdcfg 0) 1 ∷ write (SrcmdEn 0) 2 ∷ entry_writes)
 unfolding lib.Count.count_trailing_zeros lib.Count.ones is_single rule_entries permissions member_writes writes_of image_of rewrites plan_commands
 more_rights = refl
 
 -- a page less: the registers of its entry get 0
 fewer_pages :
     planned (policy_of 1 2 [] (page 0x80000000 1 ∷ page 0x80010000 1 ∷ [])) (policy_of 1 2 [] (page 0x80000000 3 ∷ []))
-    ≡ Write 0 12 1 ∷ Until 0 12 1 0 8 ∷ Write 0 4 0 ∷ Write 0 512 1 ∷ Write 0 1024 2 ∷ Write 0 2048 0x200001ff ∷ Write 0 2049 0 ∷ Write 0 2050 0x1b
-    ∷ Write 0 2052 0 ∷ Write 0 2053 0 ∷ Write 0 2054 0 ∷ Write 0 12 0 ∷ []
+    ≡ drained_writes (write Hwcfg2 0 ∷ write (Mdcfg 0) 1 ∷ write (SrcmdEn 0) 2
+    ∷ (entry_writes ++ write (EntryAddr 1) 0 ∷ write (EntryAddrh 1) 0 ∷ write (EntryCfg 1) 0 ∷ []))
 unfolding lib.Count.count_trailing_zeros lib.Count.ones is_single rule_entries permissions member_writes writes_of image_of rewrites plan_commands
 fewer_pages = refl
 
 -- in a unit of 40 domains the high register comes right after its low one
 many_domains :
     planned (policy_of 40 1 [] (page 0x80000000 1 ∷ [])) (policy_of 40 1 [] (page 0x80000000 3 ∷ []))
-    ≡ Write 0 12 1 ∷ Until 0 12 1 0 8 ∷ Write 0 4 0 ∷ Write 0 512 1 ∷ Write 0 1024 2 ∷ Write 0 1025 0 ∷ Write 0 2048 0x200001ff ∷ Write 0 2049 0 ∷ Write 0 2050 0x1b ∷ Write 0 12 0 ∷ []
+    ≡ drained_writes (write Hwcfg2 0 ∷ write (Mdcfg 0) 1 ∷ write (SrcmdEn 0) 2 ∷ write (SrcmdEnh 0) 0 ∷ entry_writes)
 unfolding lib.Count.count_trailing_zeros lib.Count.ones is_single rule_entries permissions member_writes writes_of image_of rewrites plan_commands
 many_domains = refl
 

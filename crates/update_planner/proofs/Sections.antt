@@ -6,9 +6,10 @@ use Rattle.std.specs.Ordering.{nat_cmp}
 use Rattle.std.specs.BTreeMap.{BTreeMap, get, IsOrdered}
 use Rattle.std.proofs.lemmas.Bool.Decides.{nat_tests}
 use Rattle.std.proofs.lemmas.List.{length-map}
+use Rattle.event_words.specs.declared.register.Register.TheVariants.{Hwcfg0, Mdstall, EntryAddr}
 use Rattle.event_words.specs.declared.section.Command.{Command}
 use Rattle.event_words.specs.declared.section.Command.TheVariants.{Write}
-use Rattle.event_words.specs.Registers.{index_count}
+use Rattle.event_words.specs.Registers.{index_count, index_of}
 use Rattle.event_words.specs.Sections.{is_submit, IsMax, AreValidCommands, IsValidSection}
 use Rattle.event_words.specs.declared.shape.Shape.{Shape}
 use Rattle.policy_compiler.specs.declared.image.RegPair.{RegPair}
@@ -44,7 +45,7 @@ none_over : (old new : ImageOf) → WritesUnit new.shape old → WritesUnit new.
 none_over old new a b q l =
     let o = not_written new.shape old.writes q a (omega arith) in
     let n = not_written new.shape new.writes q b (omega arith) in
-    rw (o, n) (by_test (q == 2))
+    rw (o, n) (by_test (q == index_of Hwcfg0))
   where
     by_test : (b : Bool) → (not b && false) ≡ false
     by_test true = refl
@@ -64,7 +65,7 @@ pub pairs_rewrite : (old new : ImageOf) (m : BTreeMap ℕ ℕ) (ws : List RegPai
 unfolding rewrites
 pairs_rewrite old new m ws is a b ordered finds =
     let e = entries_are (is_rewritten old new) (new_value new) 0 (index_count new.shape) m.entries ordered (begins m.entries)
-    (λ q l. finds q ∙ value_held (written_value old.writes q) (written_value new.writes q) (q == 2)) (none_over old new a b) in
+    (λ q l. finds q ∙ value_held (written_value old.writes q) (written_value new.writes q) (q == index_of Hwcfg0)) (none_over old new a b) in
     ap (map write_command) (is ∙ ap (map entry_pair) e) ∙ written_pairs new (filter (is_rewritten old new) (range_with_len 0 (index_count new.shape)))
 
 -- ---- the section
@@ -81,6 +82,10 @@ word_written (w ∷ ws) q words = by_cases (written_value ws q) (w.index == q) (
 small_or_zero : (o : Option ℕ) → IfSome o (λ v. v < 2 ^ 32) → unwrap_or o 0 < 2 ^ 32
 small_or_zero None h = omega arith
 small_or_zero (Some x) h = h
+
+-- the indexes of a unit of 1024 entries
+abbrev pub most_indexes : ℕ
+most_indexes = index_of (EntryAddr 1024)
 
 abbrev IsIndex : ℕ → Type 0
 IsIndex i = i < 2 ^ 22
@@ -102,7 +107,7 @@ filter_few p a (suc n) = by_test (p a) (filter p (range_with_len (a + 1) n)) (fi
     by_test false is few = omega arith
 
 abbrev release : List Command
-release = Write 0 12 0 ∷ []
+release = Write 0 (index_of Mdstall) 0 ∷ []
 
 valid_rewrites : (new : ImageOf) (is : List ℕ) → AreWords new.writes → AllByRecursion IsIndex is → AreValidCommands 0 (map (rewrite new) is ++ release)
 valid_rewrites new [] words small = ((omega arith, omega arith, omega arith), tt)
@@ -119,7 +124,7 @@ pub record IsValidTail (commands : List Command) : Type 0 where
   pub slots : count_by is_submit commands ≡ 0
   pub all : AreValidCommands 0 commands
 
-pub valid_rewriting : (old new : ImageOf) (polls : ℕ) → IsMax polls → index_count new.shape ≤ 6144 → AreWords new.writes → IsValidTail (rewriting (rewrites old new) polls)
+pub valid_rewriting : (old new : ImageOf) (polls : ℕ) → IsMax polls → index_count new.shape ≤ most_indexes → AreWords new.writes → IsValidTail (rewriting (rewrites old new) polls)
 unfolding rewrites
 valid_rewriting old new polls max few words =
     let is : List ℕ = filter (is_rewritten old new) (range_with_len 0 (index_count new.shape)) in
@@ -136,7 +141,7 @@ valid_rewriting old new polls max few words =
     }
 
 -- The commands of a plan make a valid section.
-pub valid_plan : (old new : ImageOf) (polls : ℕ) → IsMax polls → index_count new.shape ≤ 6144 → AreWords new.writes → IsValidSection (section_with (plan_commands old new polls))
+pub valid_plan : (old new : ImageOf) (polls : ℕ) → IsMax polls → index_count new.shape ≤ most_indexes → AreWords new.writes → IsValidSection (section_with (plan_commands old new polls))
 unfolding plan_commands
 valid_plan old new polls max few words =
     let tail = valid_rewriting old new polls max few words in
