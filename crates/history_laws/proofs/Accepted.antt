@@ -26,11 +26,13 @@ never_none : (h : History) (p : ℕ) → IsAccepted h p → reply_at h p ≡ Som
 never_none h p (inl r) q = let n : Some replies.NoSuch ≡ Some replies.Passed = sym q ∙ r in cc
 never_none h p (inr r) q = let n : Some replies.NoSuch ≡ Some replies.Queued = sym q ∙ r in cc
 
-submission_by : (h : History) (u c p : ℕ) (a : Access) (v d : ℕ) → v ≡ u → d ≡ c → taken_at h p ≡ Some (Submit v d a) → IsSubmission h p u c a
+submission_by : (h : History) (u c p : ℕ) (a : Access) (v d : ℕ) → v ≡ u → d ≡ c → taken_at h p ≡ Some (Submit v d a)
+    → IsSubmission h p u c a
 submission_by h u c p a v d i j q = ap (option_and_then submitted) q ∙ (let n : Some (let s : SubmittedAccess = record { unit = v; caller = d; access = a } in s) ≡ Some (record { unit = u; caller = c; access = a }) = cc in n)
 
 -- A Submit or a Wide that was passed or queued is a submission of some access.
-pub taken_submission : (h : History) (u c p : ℕ) (e : Event) → event_at h p ≡ Some e → Submits u c e → (reply_at h p ≡ Some replies.Passed) ⊎ (reply_at h p ≡ Some replies.Queued) → (a : Access) × IsTaken h u c p a
+pub taken_submission : (h : History) (u c p : ℕ) (e : Event) → event_at h p ≡ Some e → Submits u c e
+    → (reply_at h p ≡ Some replies.Passed) ⊎ (reply_at h p ≡ Some replies.Queued) → (a : Access) × IsTaken h u c p a
 taken_submission h u c p (RegWrite v d i n) q s r = absurd s
 taken_submission h u c p (RegRead v d i) q s r = absurd s
 taken_submission h u c p (Judge v d k) q s r = absurd s

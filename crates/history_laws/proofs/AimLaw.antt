@@ -30,7 +30,8 @@ aims_len h (suc k) = event_len (aims_at h k) (event_at h k) ∙ aims_len h k
 -- ---- the next place
 
 -- An event that isn't an Aim of the caller leaves its aim.
-stays : (h : History) (caller k : ℕ) → ((addr : ℕ) → event_at h k ≡ Some (Aim caller addr) → ⊥) → aim_at h (suc k) caller ≡ aim_at h k caller → KeepsAim h caller k → KeepsAim h caller (suc k)
+stays : (h : History) (caller k : ℕ) → ((addr : ℕ) → event_at h k ≡ Some (Aim caller addr) → ⊥)
+    → aim_at h (suc k) caller ≡ aim_at h k caller → KeepsAim h caller k → KeepsAim h caller (suc k)
 stays h caller k not same before = record {
   aimed = λ j addr last. same ∙ before.aimed j addr (record {
     aim = record { event = last.aim.event; before = earlier j addr last.aim };
@@ -49,7 +50,8 @@ same_address : (caller a b : ℕ) (o : Option Event) → o ≡ Some (Aim caller 
 same_address caller a b o p q = let n : Some (Aim caller a) ≡ Some (Aim caller b) = sym p ∙ q in cc
 
 -- An Aim of the caller is its last one.
-moves : (h : History) (caller k addr : ℕ) → event_at h k ≡ Some (Aim caller addr) → aim_at h (suc k) caller ≡ addr → KeepsAim h caller (suc k)
+moves : (h : History) (caller k addr : ℕ) → event_at h k ≡ Some (Aim caller addr) → aim_at h (suc k) caller ≡ addr
+    → KeepsAim h caller (suc k)
 moves h caller k addr here is = record {
   aimed = λ j other last.
       let own : IsAim h caller (suc k) k addr = record { event = here; before = omega arith } in
@@ -61,7 +63,8 @@ moves h caller k addr here is = record {
 -- ---- every place
 
 -- where the caller aims after the event of a place
-aim_then : (h : History) (caller k : ℕ) (o : Option Event) → event_at h k ≡ o → aim_at h (suc k) caller ≡ aim_of (aims_after_event (aims_at h k) o) caller
+aim_then : (h : History) (caller k : ℕ) (o : Option Event) → event_at h k ≡ o
+    → aim_at h (suc k) caller ≡ aim_of (aims_after_event (aims_at h k) o) caller
 aim_then h caller k o q = ap (λ p. aim_of (aims_after_event (aims_at h k) p) caller) q
 
 next : (h : History) (caller k : ℕ) → caller < 32 → KeepsAim h caller k → (o : Option Event) → event_at h k ≡ o → KeepsAim h caller (suc k)

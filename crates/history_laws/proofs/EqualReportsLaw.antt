@@ -22,11 +22,13 @@ use Rattle.history_laws.specs.EqualReports.{LawReports}
 
 -- ---- what follows the lines of events begins with a letter
 
-section_first : (i : ℕ) (o : Option SectionEnd) (xs r : List ℕ) → BeginsOtherwise (xs ++ r) → BeginsOtherwise ((section_line i o ++ xs) ++ r)
+section_first : (i : ℕ) (o : Option SectionEnd) (xs r : List ℕ) → BeginsOtherwise (xs ++ r)
+    → BeginsOtherwise ((section_line i o ++ xs) ++ r)
 section_first i None xs r h = h
 section_first i (Some end) xs r h = omega arith
 
-sections_first : (events : List LoggedEvent) (i : ℕ) (ss : List SectionOf) (r : List ℕ) → BeginsOtherwise r → BeginsOtherwise (section_lines events i ss ++ r)
+sections_first : (events : List LoggedEvent) (i : ℕ) (ss : List SectionOf) (r : List ℕ) → BeginsOtherwise r
+    → BeginsOtherwise (section_lines events i ss ++ r)
 sections_first events i [] r h = h
 sections_first events i (s ∷ ss) r h = section_first i (section_end i s (events_by i events)) _ r (sections_first events (i + 1) ss r h)
 
@@ -37,7 +39,8 @@ units_first u (x ∷ xs) = omega arith
 abbrev ending : List Shape → SectionOf → List SectionOf → List ℕ → List ℕ
 ending shapes boot lanes words = section_lines (logged_in shapes words) 0 (boot ∷ lanes) ++ (unit_lines 0 (units_after shapes words) ++ codes "end\n")
 
-ending_first : (shapes : List Shape) (boot : SectionOf) (lanes : List SectionOf) (words : List ℕ) → BeginsOtherwise (ending shapes boot lanes words)
+ending_first : (shapes : List Shape) (boot : SectionOf) (lanes : List SectionOf) (words : List ℕ)
+    → BeginsOtherwise (ending shapes boot lanes words)
 ending_first shapes boot lanes words = sections_first (logged_in shapes words) 0 (boot ∷ lanes) _ (units_first 0 (units_after shapes words))
 
 -- ---- the lines of events
@@ -57,12 +60,14 @@ module _ {S : Type 0} (after : S → ℕ → ℕ → S) (reply : S → ℕ → �
       ∙ append_assoc (event_line (entry k s word h)) (lines (suc k) (after s k word) words) r
 
   -- a line begins with its place
-  no_more : (k : ℕ) (s : S) (word : ℕ) (words : List ℕ) → IsEventWord word → (r t : List ℕ) → BeginsOtherwise t → t ≡ lines k s (word ∷ words) ++ r → ⊥
+  no_more : (k : ℕ) (s : S) (word : ℕ) (words : List ℕ) → IsEventWord word → (r t : List ℕ) → BeginsOtherwise t
+      → t ≡ lines k s (word ∷ words) ++ r → ⊥
   no_more k s word words p r t h e =
       let x = entry k s word (word_event word p) in
       number_first k _ (subst BeginsOtherwise (e ∙ first_line k s word words (word_event word p) r ∙ append_assoc (decimal k) _ _) h)
 
-  lines_tell : (k : ℕ) (s : S) (v w : List ℕ) → AllByRecursion IsEventWord v → AllByRecursion IsEventWord w → (r t : List ℕ) → BeginsOtherwise r → BeginsOtherwise t
+  lines_tell : (k : ℕ) (s : S) (v w : List ℕ) → AllByRecursion IsEventWord v → AllByRecursion IsEventWord w → (r t : List ℕ)
+      → BeginsOtherwise r → BeginsOtherwise t
       → lines k s v ++ r ≡ lines k s w ++ t → v ≡ w
   lines_tell k s [] [] p q r t f g e = refl
   lines_tell k s [] (y ∷ w) p q r t f g e = absurd (no_more k s y w q.0 t r f e)

@@ -1,8 +1,11 @@
 -- Small histories in which the premises of the laws hold.
-use Rattle.std.proofs.Common.{◌≡◌, ℕ, List, [], ◌∷◌, ◌++◌, Some, None, refl, arith, inl, inr, true, false, ⊎_elim, subst, sym}
+use Rattle.std.proofs.Common.{◌≡◌, ℕ, List, [], ◌∷◌, ◌++◌, Some, None, refl, arith, inl, inr, true, false, ⊎_elim, subst, sym, Bool, Option, map}
 use Rattle.std.specs.Prelude.{option_map}
 use Rattle.std.proofs.lemmas.Bool.{cases_eq}
 use lib.Count
+use Rattle.event_words.specs.Registers.{index_of}
+use Rattle.event_words.specs.declared.register.Register.TheVariants.{Hwcfg0, Mdstall, Rridscp, Mdlckh, Entrylck, Mdcfg, SrcmdEn, SrcmdEnh, EntryAddr, EntryCfg}
+use Rattle.event_words.specs.declared.register.Register.{Register}
 use Rattle.event_words.specs.declared.shape.Shape.{Shape}
 use Rattle.event_words.specs.declared.access.Access.{Access}
 use Rattle.event_words.specs.declared.access.Kind.TheVariants.{Read}
@@ -24,13 +27,17 @@ small = record { rrids = 4; domains = 3; entries = 8; mdcfg = 0; k = 0; srcmd = 
 abbrev read_by : ℕ → ℕ → Access
 read_by rrid addr = record { rrid = rrid; kind = Read; addr = addr; len = 4 }
 
+-- a write of a register of unit 0 by caller 0
+abbrev put : Register → ℕ → Event
+put q value = RegWrite 0 0 (index_of q) value
+
 -- Domain 0 has all entries, requester 3 is in it, and checking is on.
 abbrev opening : List Event
-opening = RegWrite 0 0 0x200 8 ∷ RegWrite 0 0 0x418 2 ∷ RegWrite 0 0 2 1 ∷ []
+opening = put (Mdcfg 0) 8 ∷ put (SrcmdEn 3) 2 ∷ put Hwcfg0 1 ∷ []
 
 -- Entry 0 lets requester 3 read 4096 bytes from 0x80000000.
 abbrev window : List Event
-window = RegWrite 0 0 0x800 0x200001ff ∷ RegWrite 0 0 0x802 0x19 ∷ []
+window = put (EntryAddr 0) 0x200001ff ∷ put (EntryCfg 0) 0x19 ∷ []
 
 abbrev of_events : List Event → History
 of_events es = record { shapes = small ∷ []; events = es }
@@ -38,7 +45,7 @@ of_events es = record { shapes = small ∷ []; events = es }
 -- ---- a stall that was not read as drained promises nothing
 
 abbrev undrained : History
-undrained = of_events (opening ++ window ++ Submit 0 0 (read_by 3 0x80000000) ∷ RegWrite 0 0 12 1 ∷ RegRead 0 0 12 ∷ RegWrite 0 0 0x802 0x18 ∷ Judge 0 0 5 ∷ RegRead 0 0 12 ∷ [])
+undrained = of_events (opening ++ window ++ Submit 0 0 (read_by 3 0x80000000) ∷ put Mdstall 1 ∷ RegRead 0 0 (index_of Mdstall) ∷ put (EntryCfg 0) 0x18 ∷ Judge 0 0 5 ∷ RegRead 0 0 (index_of Mdstall) ∷ [])
 
 -- The read of MDSTALL at place 7 has bit 0 set, for the access in flight.
 busy_read : reply_at undrained 7 ≡ Some (Value 1)
@@ -59,7 +66,7 @@ idle_read = refl
 -- ---- a drained window that ends early for one requester
 
 abbrev drained : History
-drained = of_events (opening ++ window ++ Submit 0 0 (read_by 3 0x80000000) ∷ RegWrite 0 0 12 1 ∷ Judge 0 0 5 ∷ RegRead 0 0 12 ∷ RegWrite 0 0 0x802 0x18 ∷ RegWrite 0 0 14 0x80000003 ∷ Submit 0 0 (read_by 3 0x80000000) ∷ Judge 0 0 11 ∷ Submit 0 0 (read_by 2 0) ∷ [])
+drained = of_events (opening ++ window ++ Submit 0 0 (read_by 3 0x80000000) ∷ put Mdstall 1 ∷ Judge 0 0 5 ∷ RegRead 0 0 (index_of Mdstall) ∷ put (EntryCfg 0) 0x18 ∷ put Rridscp 0x80000003 ∷ Submit 0 0 (read_by 3 0x80000000) ∷ Judge 0 0 11 ∷ Submit 0 0 (read_by 2 0) ∷ [])
 
 verdict_before : IsVerdictOn drained 0 3 7
 unfolding lib.Count.count_trailing_zeros
@@ -100,7 +107,7 @@ verdict_after = record { caller = 0; place = 11; access = read_by 3 0x80000000; 
 -- ---- a full queue, and a ticket
 
 abbrev filled : History
-filled = of_events (opening ++ RegWrite 0 0 12 1 ∷ Submit 0 0 (read_by 3 0) ∷ Submit 0 0 (read_by 3 0) ∷ Judge 0 0 4 ∷ RegWrite 0 0 12 0 ∷ Judge 0 0 4 ∷ Judge 0 0 4 ∷ [])
+filled = of_events (opening ++ put Mdstall 1 ∷ Submit 0 0 (read_by 3 0) ∷ Submit 0 0 (read_by 3 0) ∷ Judge 0 0 4 ∷ put Mdstall 0 ∷ Judge 0 0 4 ∷ Judge 0 0 4 ∷ [])
 
 full : FindsFullQueue filled 5
 full = record { unit = 0; caller = 0; access = read_by 3 0; state = _; event = refl; here = refl; stalled = refl; full = refl; silent = refl }
@@ -129,19 +136,19 @@ gone = refl
 
 -- ENTRYLCK guards the entries below 3.
 abbrev locked : History
-locked = of_events (opening ++ RegWrite 0 0 0x13 6 ∷ RegWrite 0 0 0x808 0x55 ∷ RegWrite 0 0 0x80c 0x55 ∷ [])
+locked = of_events (opening ++ put Entrylck 6 ∷ put (EntryAddr 2) 0x55 ∷ put (EntryAddr 3) 0x55 ∷ [])
 
-guarded : option_map (λ x. is_guarded x 0x808 0) (state_at locked 4 0) ≡ Some true
+-- whether a bit of a register is guarded before a place, and its value there
+abbrev bit_before : History → Register → ℕ → ℕ → Option (Bool × Bool)
+bit_before h q i k = option_map (λ x. (is_guarded x (index_of q) i, bit_of x (index_of q) i)) (state_at h k 0)
+
+-- The address of entry 2 is guarded from place 4 on, so its write leaves it.
+guarded : map (bit_before locked (EntryAddr 2) 0) (3 ∷ 4 ∷ 6 ∷ []) ≡ Some (false, false) ∷ Some (true, false) ∷ Some (true, false) ∷ []
 guarded = refl
 
-unguarded_before : option_map (λ x. is_guarded x 0x808 0) (state_at locked 3 0) ≡ Some false
-unguarded_before = refl
-
-kept_value : option_map (λ x. bit_of x 0x808 0) (state_at locked 6 0) ≡ Some false
-kept_value = refl
-
-unguarded_entry : option_map (λ x. bit_of x 0x80c 0) (state_at locked 6 0) ≡ Some true
-unguarded_entry = refl
+-- That of entry 3 is free.
+unguarded : bit_before locked (EntryAddr 3) 0 6 ≡ Some (false, true)
+unguarded = refl
 
 -- ---- guarded bits of high registers
 
@@ -150,22 +157,21 @@ wide = record { rrids = 4; domains = 40; entries = 8; mdcfg = 0; k = 0; srcmd = 
 
 -- MDLCKH locks domain 39, whose bit is bit 8 of the high registers.
 abbrev locked_high : History
-locked_high = record { shapes = wide ∷ []; events = RegWrite 0 0 0x11 0x100 ∷ RegWrite 0 0 0x419 0x1ff ∷ RegWrite 0 0 0x418 0x1ff ∷ RegWrite 0 0 0x11 0 ∷ [] }
+locked_high = record { shapes = wide ∷ []; events = put Mdlckh 0x100 ∷ put (SrcmdEnh 3) 0x1ff ∷ put (SrcmdEn 3) 0x1ff ∷ put Mdlckh 0 ∷ [] }
 
-guarded_high : option_map (λ x. is_guarded x 0x419 8) (state_at locked_high 1 0) ≡ Some true
+guarded_high : map (bit_before locked_high (SrcmdEnh 3) 8) (1 ∷ 4 ∷ []) ≡ Some (true, false) ∷ Some (true, false) ∷ []
 guarded_high = refl
 
-kept_high : option_map (λ x. bit_of x 0x419 8) (state_at locked_high 4 0) ≡ Some false
-kept_high = refl
-
-lock_stays : option_map (λ x. bit_of x 0x11 8) (state_at locked_high 4 0) ≡ Some true
+-- The lock itself can't be cleared.
+lock_stays : bit_before locked_high Mdlckh 8 4 ≡ Some (true, true)
 lock_stays = refl
 
--- The bit of domain 38 is free, and so is bit 8 of the low register, which is domain 7's.
-unguarded_high : option_map (λ x. bit_of x 0x419 7) (state_at locked_high 4 0) ≡ Some true
+-- The bit of domain 38 is free up to its write, and so is bit 8 of the low register, which is domain 7's. The write of
+-- place 2 also sets the requester's own lock.
+unguarded_high : map (bit_before locked_high (SrcmdEnh 3) 7) (1 ∷ 4 ∷ []) ≡ Some (false, false) ∷ Some (true, true) ∷ []
 unguarded_high = refl
 
-unguarded_low : option_map (λ x. bit_of x 0x418 8) (state_at locked_high 4 0) ≡ Some true
+unguarded_low : map (bit_before locked_high (SrcmdEn 3) 8) (2 ∷ 4 ∷ []) ≡ Some (false, false) ∷ Some (true, true) ∷ []
 unguarded_low = refl
 
 -- ---- a wide submission with another caller's aim between its two events

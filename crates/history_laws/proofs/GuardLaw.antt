@@ -14,9 +14,9 @@ use Rattle.event_words.specs.declared.event.Event.{Event}
 use Rattle.event_words.specs.declared.event.Event.TheVariants.{RegWrite, RegRead, Submit, Judge}
 use Rattle.event_words.specs.declared.register.Rule.TheVariants.{SetOnly, GrowOnly}
 use Rattle.event_words.specs.declared.register.Register.{Register}
-use Rattle.event_words.specs.declared.register.Register.TheVariants.{Mdcfglck, Entrylck}
-use Rattle.event_words.specs.Registers.{Registers, word_at, bits_of, has_bit, field, merged, written, write_at, register_at}
-use Rattle.event_words.specs.Guards.{is_in, is_field_bit, is_guarded, number_of_bits, guarded_bits}
+use Rattle.event_words.specs.declared.register.Register.TheVariants.{Mdcfglck, Entrylck, ErrInfo, ErrReqaddr, ErrReqaddrh, ErrReqid}
+use Rattle.event_words.specs.Registers.{Registers, word_at, bits_of, has_bit, field, merged, written, write_at, register_at, index_of}
+use Rattle.event_words.specs.Guards.{is_in, is_field_bit, is_guarded, number_of_bits, guarded_bits, reg}
 use Rattle.event_words.specs.Denials.{recorded}
 use Rattle.event_words.specs.Valid.{IsValidShape}
 use Rattle.event_words.proofs.BitNumbers.{number_bit, number_below}
@@ -48,19 +48,20 @@ follows_on r s t v f g = record {
 -- ---- a capture
 
 -- No bit of the record of errors is guarded.
-guarded_outside : (r : Registers) (j i : ℕ) → is_guarded r j i ≡ true → (j < 25) ⊎ (28 < j)
-guarded_outside r j i g = ⊎_elim inl (λ (from : 25 ≤ j). ⊎_elim inr (λ (upto : j ≤ 28). absurd (within from upto)) (cases_lt 28 j)) (cases_lt j 25)
+guarded_outside : (r : Registers) (j i : ℕ) → is_guarded r j i ≡ true → (j < index_of ErrInfo) ⊎ (index_of ErrReqid < j)
+guarded_outside r j i g = ⊎_elim inl
+    (λ (from : index_of ErrInfo ≤ j). ⊎_elim inr (λ (upto : j ≤ index_of ErrReqid). absurd (within from upto)) (cases_lt (index_of ErrReqid) j))
+    (cases_lt j (index_of ErrInfo))
   where
-    not_at : (k : ℕ) → is_guarded r k i ≡ false → j ≡ k → ⊥
-    not_at k none e = false≢true (sym none ∙ (ap (λ k. is_guarded r k i) (sym e) ∙ g))
+    not_at : (q : Register) → is_guarded r (index_of q) i ≡ false → j ≡ index_of q → ⊥
+    not_at q none e = false≢true (sym none ∙ (ap (λ k. is_guarded r k i) (sym e) ∙ g))
 
-    within : 25 ≤ j → j ≤ 28 → ⊥
-    within from upto =
-        let p = not_at 25 refl in
-        let q = not_at 26 refl in
-        let s = not_at 27 refl in
-        let t = not_at 28 refl in
-        ⊎_elim p (λ a. ⊎_elim q (λ b. ⊎_elim s (λ c. t (omega arith)) (cases_eq j 27)) (cases_eq j 26)) (cases_eq j 25)
+    within : index_of ErrInfo ≤ j → j ≤ index_of ErrReqid → ⊥
+    within from upto = ⊎_elim (not_at ErrInfo refl)
+        (λ a. ⊎_elim (not_at ErrReqaddr refl)
+        (λ b. ⊎_elim (not_at ErrReqaddrh refl) (λ c. not_at ErrReqid refl (omega arith)) (cases_eq j (index_of ErrReqaddrh)))
+        (cases_eq j (index_of ErrReqaddr)))
+        (cases_eq j (index_of ErrInfo))
 
 same_le : (a b : ℕ) → a ≡ b → b ≤ a
 same_le a b e = omega arith
@@ -69,8 +70,8 @@ recorded_follows : (r : Registers) (a : Access) (d : Denial) → Follows r (reco
 recorded_follows r a d = record {
   shape = recorded_shape r a d;
   kept = λ index i h. ap (λ n. has_bit n i) (recorded_outside r a d index (guarded_outside r index i h));
-  domains = same_le _ _ (ap (bits_of 1 7) (recorded_outside r a d 18 (inl (omega arith))));
-  entries = same_le _ _ (ap (bits_of 1 16) (recorded_outside r a d 19 (inl (omega arith))));
+  domains = same_le _ _ (ap (bits_of 1 7) (recorded_outside r a d (index_of Mdcfglck) (inl (omega arith))));
+  entries = same_le _ _ (ap (bits_of 1 16) (recorded_outside r a d (index_of Entrylck) (inl (omega arith))));
 }
 
 -- ---- a write
@@ -82,20 +83,27 @@ stored_else P ws i n p q = ⊎_elim
     (λ (past : length ws ≤ i). subst P (get_or_past ws i 0 past ∙ sym (get_or_past (set ws i n) i 0 (omega (arith, length-set ws i n)))) q)
     (cases_lt i (length ws))
 
-write_kept : (r : Registers) (index value keep i : ℕ) (o : Option Register) → keep < 2 ^ 32 → i < 32 → bit_at keep i ≡ 1 → bit_at (word_at (write_at r index value keep o) index) i ≡ bit_at (word_at r index) i
+write_kept : (r : Registers) (index value keep i : ℕ) (o : Option Register) → keep < 2 ^ 32 → i < 32 → bit_at keep i ≡ 1
+    → bit_at (word_at (write_at r index value keep o) index) i ≡ bit_at (word_at r index) i
 write_kept r index value keep i None small l h = refl
 write_kept r index value keep i (Some q) small l h =
     stored_else (λ n. bit_at n i ≡ bit_at (word_at r index) i) r.words index _ (kept_bit keep (word_at r index) _ i small l h) refl
 
+-- the word at an index that is written, where what is guarded stays
+abbrev word_after : Registers → ℕ → ℕ → ℕ
+word_after r index value = word_at (written r index value (guarded_bits r index)) index
+
 -- A guarded bit of the written register keeps its value.
-same_kept : (r : Registers) (index value i : ℕ) → i < 32 → is_guarded r index i ≡ true → bit_at (word_at (written r index value (guarded_bits r index)) index) i ≡ bit_at (word_at r index) i
+same_kept : (r : Registers) (index value i : ℕ) → i < 32 → is_guarded r index i ≡ true
+    → bit_at (word_after r index value) i ≡ bit_at (word_at r index) i
 same_kept r index value i l g =
     write_kept r index value (guarded_bits r index) i (register_at r.shape index) (number_below (is_guarded r index)) l (eqb-true (bit_at (guarded_bits r index) i) 1 (number_bit (is_guarded r index) i l ∙ g))
 
 no_bit : (n i : ℕ) → n < 2 ^ 32 → 32 ≤ i → has_bit n i ≡ false
 no_bit n i small l = ap (λ b. b == 1) (bit_at_above n 32 i small l)
 
-written_kept : (r : Registers) (index value j i : ℕ) → AreWords r → is_guarded r j i ≡ true → has_bit (word_at (written r index value (guarded_bits r index)) j) i ≡ has_bit (word_at r j) i
+written_kept : (r : Registers) (index value j i : ℕ) → AreWords r → is_guarded r j i ≡ true
+    → has_bit (word_at (written r index value (guarded_bits r index)) j) i ≡ has_bit (word_at r j) i
 written_kept r index value j i w g = ⊎_elim
     (λ (low : i < 32). ⊎_elim
     (λ (e : j ≡ index). subst (λ k. is_guarded r k i ≡ true → has_bit (word_at (written r index value (guarded_bits r index)) k) i ≡ has_bit (word_at r k) i) (sym e)
@@ -131,11 +139,13 @@ merged_none old new small = same_from_bits (merged 0 old new) new (λ i.
     (λ (above : 32 ≤ i). zero_numbers (bit_at old i) (bit_at new i) (bit_at 0 i) (bit_at (bit_not w32 0) i) (bit_at-zero i) (bit_at_above new 32 i small above))
     (cases_lt i 32)))
 
-domains_grown : (old lock value : ℕ) → lock < 2 → bits_of 1 7 old ≤ bits_of 1 7 (merged 0 old (0 + lock * 2 ^ 0 + max (bits_of 1 7 old) (bits_of 1 7 value) * 2 ^ 1))
+domains_grown : (old lock value : ℕ) → lock < 2
+    → bits_of 1 7 old ≤ bits_of 1 7 (merged 0 old (0 + lock * 2 ^ 0 + max (bits_of 1 7 old) (bits_of 1 7 value) * 2 ^ 1))
 domains_grown old lock value l =
     rw (merged_none old (0 + lock * 2 ^ 0 + max (bits_of 1 7 old) (bits_of 1 7 value) * 2 ^ 1) (omega arith)) (omega arith)
 
-entries_grown : (old lock value : ℕ) → lock < 2 → bits_of 1 16 old ≤ bits_of 1 16 (merged 0 old (0 + lock * 2 ^ 0 + max (bits_of 1 16 old) (bits_of 1 16 value) * 2 ^ 1))
+entries_grown : (old lock value : ℕ) → lock < 2
+    → bits_of 1 16 old ≤ bits_of 1 16 (merged 0 old (0 + lock * 2 ^ 0 + max (bits_of 1 16 old) (bits_of 1 16 value) * 2 ^ 1))
 entries_grown old lock value l =
     rw (merged_none old (0 + lock * 2 ^ 0 + max (bits_of 1 16 old) (bits_of 1 16 value) * 2 ^ 1) (omega arith)) (omega arith)
 
@@ -150,27 +160,31 @@ number_bit_of w i l =
 
 -- A number from bit 1 on, behind a lock bit, doesn't fall: it stays where the lock bit is set, and else is the larger.
 number_write : (r : Registers) (value index w : ℕ)
-    → (has_bit (word_at r index) 0 ≡ true → (i : ℕ) → i < w → bit_at (word_at (written r index value (guarded_bits r index)) index) (suc i) ≡ bit_at (word_at r index) (suc i))
-    → (has_bit (word_at r index) 0 ≡ false → guarded_bits r index ≡ 0) → bits_of 1 w (word_at r index) ≤ bits_of 1 w (word_at (written r index value 0) index)
-    → bits_of 1 w (word_at r index) ≤ bits_of 1 w (word_at (written r index value (guarded_bits r index)) index)
+    → (has_bit (word_at r index) 0 ≡ true → (i : ℕ) → i < w → bit_at (word_after r index value) (suc i) ≡ bit_at (word_at r index) (suc i))
+    → (has_bit (word_at r index) 0 ≡ false → guarded_bits r index ≡ 0)
+    → bits_of 1 w (word_at r index) ≤ bits_of 1 w (word_at (written r index value 0) index)
+    → bits_of 1 w (word_at r index) ≤ bits_of 1 w (word_after r index value)
 number_write r value index w kept free grown = ⊎_elim
-    (λ (locked : has_bit (word_at r index) 0 ≡ true). same_le _ _ (same_bits w (word_at (written r index value (guarded_bits r index)) index) (word_at r index) (kept locked)))
+    (λ (locked : has_bit (word_at r index) 0 ≡ true). same_le _ _ (same_bits w (word_after r index value) (word_at r index) (kept locked)))
     (λ (unlocked : has_bit (word_at r index) 0 ≡ false). subst (λ keep. bits_of 1 w (word_at r index) ≤ bits_of 1 w (word_at (written r index value keep) index)) (sym (free unlocked)) grown)
     (cases_Bool (has_bit (word_at r index) 0))
 
-domains_write : (r : Registers) (value : ℕ) → bits_of 1 7 (word_at r 18) ≤ bits_of 1 7 (word_at (written r 18 value (guarded_bits r 18)) 18)
-domains_write r value = number_write r value 18 7
-    (λ locked i l. same_kept r 18 value (suc i) (omega arith) (guarded_by (Some Mdcfglck) r Mdcfglck (suc i) refl (and_from (has_bit (word_at r 18) 0) _ locked (number_bit_of 7 i l))))
+domains_write : (r : Registers) (value : ℕ)
+    → bits_of 1 7 (reg r Mdcfglck) ≤ bits_of 1 7 (word_after r (index_of Mdcfglck) value)
+domains_write r value = number_write r value (index_of Mdcfglck) 7
+    (λ locked i l. same_kept r (index_of Mdcfglck) value (suc i) (omega arith) (guarded_by (Some Mdcfglck) r Mdcfglck (suc i) refl (and_from (has_bit (reg r Mdcfglck) 0) _ locked (number_bit_of 7 i l))))
     (λ free. ap (λ b. number_of_bits (λ i. b && is_field_bit r.shape Mdcfglck i)) free)
-    (stored_else (λ n. bits_of 1 7 (word_at r 18) ≤ bits_of 1 7 n) r.words 18 _ (domains_grown (word_at r 18) _ value (lock_small (word_at r 18) value)) (omega arith))
+    (stored_else (λ n. bits_of 1 7 (reg r Mdcfglck) ≤ bits_of 1 7 n) r.words (index_of Mdcfglck) _ (domains_grown (reg r Mdcfglck) _ value (lock_small (reg r Mdcfglck) value)) (omega arith))
 
-entries_write : (r : Registers) (value : ℕ) → bits_of 1 16 (word_at r 19) ≤ bits_of 1 16 (word_at (written r 19 value (guarded_bits r 19)) 19)
-entries_write r value = number_write r value 19 16
-    (λ locked i l. same_kept r 19 value (suc i) (omega arith) (guarded_by (Some Entrylck) r Entrylck (suc i) refl (and_from (has_bit (word_at r 19) 0) _ locked (number_bit_of 16 i l))))
+entries_write : (r : Registers) (value : ℕ)
+    → bits_of 1 16 (reg r Entrylck) ≤ bits_of 1 16 (word_after r (index_of Entrylck) value)
+entries_write r value = number_write r value (index_of Entrylck) 16
+    (λ locked i l. same_kept r (index_of Entrylck) value (suc i) (omega arith) (guarded_by (Some Entrylck) r Entrylck (suc i) refl (and_from (has_bit (reg r Entrylck) 0) _ locked (number_bit_of 16 i l))))
     (λ free. ap (λ b. number_of_bits (λ i. b && is_field_bit r.shape Entrylck i)) free)
-    (stored_else (λ n. bits_of 1 16 (word_at r 19) ≤ bits_of 1 16 n) r.words 19 _ (entries_grown (word_at r 19) _ value (lock_small (word_at r 19) value)) (omega arith))
+    (stored_else (λ n. bits_of 1 16 (reg r Entrylck) ≤ bits_of 1 16 n) r.words (index_of Entrylck) _ (entries_grown (reg r Entrylck) _ value (lock_small (reg r Entrylck) value)) (omega arith))
 
-other_le : (w : ℕ) (r : Registers) (index value j : ℕ) → (j ≡ index → ⊥) → bits_of 1 w (word_at r j) ≤ bits_of 1 w (word_at (written r index value (guarded_bits r index)) j)
+other_le : (w : ℕ) (r : Registers) (index value j : ℕ) → (j ≡ index → ⊥)
+    → bits_of 1 w (word_at r j) ≤ bits_of 1 w (word_at (written r index value (guarded_bits r index)) j)
 other_le w r index value j ne = same_le _ _ (ap (bits_of 1 w) (other_stays r index value (guarded_bits r index) j (register_at r.shape index) ne))
 
 written_follows : (r : Registers) (index value : ℕ) → AreWords r → Follows r (written r index value (guarded_bits r index))
@@ -178,11 +192,11 @@ written_follows r index value w = record {
   shape = written-shape r index value (guarded_bits r index);
   kept = λ j i h. written_kept r index value j i w h;
   domains = ⊎_elim
-      (λ (e : 18 ≡ index). subst (λ j. bits_of 1 7 (word_at r 18) ≤ bits_of 1 7 (word_at (written r j value (guarded_bits r j)) 18)) e (domains_write r value))
-      (λ (ne : 18 ≡ index → ⊥). other_le 7 r index value 18 ne) (cases_eq 18 index);
+      (λ (e : index_of Mdcfglck ≡ index). subst (λ j. bits_of 1 7 (reg r Mdcfglck) ≤ bits_of 1 7 (word_at (written r j value (guarded_bits r j)) (index_of Mdcfglck))) e (domains_write r value))
+      (λ (ne : index_of Mdcfglck ≡ index → ⊥). other_le 7 r index value (index_of Mdcfglck) ne) (cases_eq (index_of Mdcfglck) index);
   entries = ⊎_elim
-      (λ (e : 19 ≡ index). subst (λ j. bits_of 1 16 (word_at r 19) ≤ bits_of 1 16 (word_at (written r j value (guarded_bits r j)) 19)) e (entries_write r value))
-      (λ (ne : 19 ≡ index → ⊥). other_le 16 r index value 19 ne) (cases_eq 19 index);
+      (λ (e : index_of Entrylck ≡ index). subst (λ j. bits_of 1 16 (reg r Entrylck) ≤ bits_of 1 16 (word_at (written r j value (guarded_bits r j)) (index_of Entrylck))) e (entries_write r value))
+      (λ (ne : index_of Entrylck ≡ index → ⊥). other_le 16 r index value (index_of Entrylck) ne) (cases_eq (index_of Entrylck) index);
 }
 
 -- ---- every later place
@@ -215,7 +229,8 @@ own_registers h u shape v k =
     own_induction (λ k x. AreOf shape x.registers) h u shape (record { same = refl; words = words_reset shape v }) (λ k x r. r)
     (λ k x e q t r. record { same = (step_follows k x e r.words).shape ∙ r.same; words = words_step k x e r.words }) k
 
-own_follows : (h : History) (u : ℕ) (shape : Shape) → IsValidShape shape → (j k : ℕ) → j ≤ k → Follows (own_state h u shape j).registers (own_state h u shape k).registers
+own_follows : (h : History) (u : ℕ) (shape : Shape) → IsValidShape shape → (j k : ℕ) → j ≤ k
+    → Follows (own_state h u shape j).registers (own_state h u shape k).registers
 own_follows h u shape v j zero l =
     let e : j ≡ 0 = omega arith in
     subst (λ i. Follows (own_state h u shape i).registers (own_state h u shape 0).registers) (sym e) (follows_self (own_state h u shape 0).registers)

@@ -10,7 +10,8 @@ use Rattle.unit_core.specs.Updates.{IsDrainedReading, IsUpdateWrite, IsRelease}
 write_or_not : (h : History) (k : ℕ) → IsUpdateWrite h k ⊎ (IsUpdateWrite h k → ⊥)
 write_or_not h k = by (event_at h k) refl
   where
-    by_caller : (unit caller index value : ℕ) (b : Bool) → event_at h k ≡ Some (RegWrite unit caller index value) → (caller == 1) ≡ b → IsUpdateWrite h k ⊎ (IsUpdateWrite h k → ⊥)
+    by_caller : (unit caller index value : ℕ) (b : Bool) → event_at h k ≡ Some (RegWrite unit caller index value) → (caller == 1) ≡ b
+        → IsUpdateWrite h k ⊎ (IsUpdateWrite h k → ⊥)
     by_caller unit caller index value true e t = inl (record { unit = unit; index = index; value = value; event = e ∙ ap (λ c. Some (RegWrite unit c index value)) (eqb-true caller 1 t) })
     by_caller unit caller index value false e t = inr (λ w.
         let both : Some (RegWrite unit caller index value) ≡ Some (RegWrite w.unit 1 w.index w.value) = sym e ∙ w.event in
@@ -33,7 +34,8 @@ greatest : (h : History) (n : ℕ) → LastBelow h n ⊎ ((k : ℕ) → k < n �
 greatest h zero = inr (λ k l w. absurd (omega arith))
 greatest h (suc n) = by (write_or_not h n) (greatest h n)
   where
-    by : IsUpdateWrite h n ⊎ (IsUpdateWrite h n → ⊥) → LastBelow h n ⊎ ((k : ℕ) → k < n → IsUpdateWrite h k → ⊥) → LastBelow h (suc n) ⊎ ((k : ℕ) → k < suc n → IsUpdateWrite h k → ⊥)
+    by : IsUpdateWrite h n ⊎ (IsUpdateWrite h n → ⊥) → LastBelow h n ⊎ ((k : ℕ) → k < n → IsUpdateWrite h k → ⊥)
+        → LastBelow h (suc n) ⊎ ((k : ℕ) → k < suc n → IsUpdateWrite h k → ⊥)
     by (inl w) below = inl (record { place = n; write = w; last = λ k l v. omega arith })
     by (inr not) (inl g) = inl (record { place = g.place; write = g.write; last = λ k l v. ⊎_elim (λ (m : k < n). g.last k m v) (λ (m : n ≤ k). let e : k ≡ n = omega arith in absurd (not (subst (IsUpdateWrite h) e v))) (cases_lt k n) })
     by (inr not) (inr none) = inr (λ k l v. ⊎_elim (λ (m : k < n). none k m v) (λ (m : n ≤ k). let e : k ≡ n = omega arith in not (subst (IsUpdateWrite h) e v)) (cases_lt k n))

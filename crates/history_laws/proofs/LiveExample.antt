@@ -2,28 +2,29 @@
 -- policy denies, and one after the release, which the new policy allows.
 use Rattle.std.proofs.Common.{◌≡◌, ℕ, List, [], ◌∷◌, ◌++◌, Some, None, map, refl, arith, true, false, ◌<◌}
 use lib.Count
+use Rattle.event_words.specs.Registers.{index_of}
+use Rattle.event_words.specs.declared.register.Register.TheVariants.{Hwcfg0, Hwcfg2, Mdstall, Mdcfg, SrcmdEn, SrcmdEnh, EntryAddr, EntryAddrh, EntryCfg}
 use Rattle.event_words.specs.declared.shape.Shape.{Shape}
 use Rattle.event_words.specs.declared.access.Access.{Access}
 use Rattle.event_words.specs.declared.access.Kind.TheVariants.{Write}
-use Rattle.event_words.specs.declared.event.Event.{Event}
-use Rattle.event_words.specs.declared.event.Event.TheVariants.{RegWrite, RegRead, Submit, Judge}
+use Rattle.event_words.specs.declared.event.Event.TheVariants.{Submit, Judge}
 use Rattle.event_words.specs.declared.reply.Reply.TheVariants.{Verdict, Queued}
 use Rattle.event_words.specs.declared.reply.Verdict.TheVariants.{Allowed, Denied}
-use Rattle.event_words.specs.declared.section.Command.TheVariants as commands
-use Rattle.event_words.specs.Sections.{SectionOf}
 use Rattle.event_words.specs.Word.{word_of}
 use Rattle.event_words.specs.Runs.{caller_of_word}
+use Rattle.policy_compiler.specs.declared.image.RegPair.{RegPair}
 use Rattle.policy_compiler.specs.Policies.{PolicyOf, IsPolicy, IsRule, is_single}
 use Rattle.policy_compiler.specs.Needs.{need_refusal, need_domains, need_entries, rule_need}
 use Rattle.policy_compiler.specs.Commands.{image_section}
 use Rattle.update_planner.specs.Plans.{plan_commands, rewrites}
-use Rattle.policy_compiler.specs.Images.{image_of, pair, writes_of, member_writes, rule_entries}
+use Rattle.policy_compiler.specs.Images.{image_of, writes_of, member_writes, rule_entries}
 use Rattle.policy_compiler.specs.Decides.{policy_decision, rule_touches, rule_covers, rule_grants, is_member, guard_kind, grants_kind}
 use Rattle.unit_core.specs.Histories.{History, reply_at, history_of, logged_in, HasRecord, HaveRecords, BootComesFirst}
 use Rattle.unit_core.specs.Updates.{ReadsDrained, IsDrainedReading, IsRelease}
-use Rattle.history_laws.specs.Live.{IsLiveHistory, update_lanes}
+use Rattle.history_laws.proofs.WriteRecords.{write_by, drain_read, stall, release_write}
+use Rattle.history_laws.specs.Live.{IsLiveHistory}
 use Rattle.event_words.proofs.ValidTests.{event_words, valid_shape}
-use Rattle.history_laws.proofs.InNumbers.{boot_first, first_reading, last_write}
+use Rattle.history_laws.proofs.InNumbers.{boot_first, first_reading, last_write, UpdateEvents, write_to, up_to_reading, from_reading, up_to_release, all_events, all_words, update_history, judged, judged_beside, update_in_numbers}
 
 abbrev wide : Shape
 wide = record { rrids = 1; domains = 40; entries = 1; mdcfg = 0; k = 0; srcmd = 0; sps = false; queue = 1; transl = None }
@@ -45,7 +46,13 @@ new = with_rights 3
 abbrev written : Access
 written = record { rrid = 0; kind = Write; addr = 0x80000000; len = 4 }
 
-old_image : (image_of old).writes ≡ pair 4 0 ∷ pair 512 1 ∷ pair 1024 2 ∷ pair 1025 0 ∷ pair 2048 0x200001ff ∷ pair 2049 0 ∷ pair 2050 0x19 ∷ pair 2 1 ∷ []
+-- the tables of one entry, which is configured so
+abbrev tables : ℕ → List RegPair
+tables cfg =
+    write_to Hwcfg2 0 ∷ write_to (Mdcfg 0) 1 ∷ write_to (SrcmdEn 0) 2 ∷ write_to (SrcmdEnh 0) 0
+    ∷ write_to (EntryAddr 0) 0x200001ff ∷ write_to (EntryAddrh 0) 0 ∷ write_to (EntryCfg 0) cfg ∷ []
+
+old_image : (image_of old).writes ≡ tables 0x19 ++ write_to Hwcfg0 1 ∷ []
 unfolding image_of writes_of member_writes rule_entries is_single lib.Count.ones
 old_image = refl
 
@@ -57,44 +64,20 @@ new_allows : policy_decision new written ≡ 0
 unfolding policy_decision rule_touches rule_covers rule_grants is_member guard_kind grants_kind
 new_allows = refl
 
--- A submission, and judgements up to its verdict.
-abbrev judged : SectionOf
-judged = record { commands = commands.Submit 0 written 0 ∷ commands.Settle 0 8 ∷ []; slots = 1 }
-
 -- Lane 2 is judged before the drained reading, and lane 3 submits while its requester is stalled.
-abbrev boot_events : List Event
-boot_events =
-    RegWrite 0 0 4 0 ∷ RegWrite 0 0 512 1 ∷ RegWrite 0 0 1024 2 ∷ RegWrite 0 0 1025 0 ∷ RegWrite 0 0 2048 0x200001ff ∷ RegWrite 0 0 2049 0 ∷ RegWrite 0 0 2050 0x19 ∷ RegWrite 0 0 2 1 ∷ []
-
-abbrev rewriting : List Event
-rewriting =
-    RegWrite 0 1 4 0 ∷ RegWrite 0 1 512 1 ∷ RegWrite 0 1 1024 2 ∷ RegWrite 0 1 1025 0 ∷ RegWrite 0 1 2048 0x200001ff ∷ RegWrite 0 1 2049 0 ∷ RegWrite 0 1 2050 0x1b ∷ []
-
-abbrev up_to_reading : List Event
-up_to_reading = boot_events ++ Submit 0 2 written ∷ RegWrite 0 1 12 1 ∷ Judge 0 2 8 ∷ []
-
-abbrev from_reading : List Event
-from_reading = RegRead 0 1 12 ∷ (rewriting ++ Submit 0 3 written ∷ RegWrite 0 1 12 0 ∷ Judge 0 3 19 ∷ [])
-
-abbrev up_to_release : List Event
-up_to_release = up_to_reading ++ RegRead 0 1 12 ∷ (rewriting ++ Submit 0 3 written ∷ RegWrite 0 1 12 0 ∷ [])
-
-abbrev after_it : List Event
-after_it = Judge 0 3 19 ∷ []
-
-abbrev lane_events : List Event
-lane_events = Submit 0 2 written ∷ RegWrite 0 1 12 1 ∷ Judge 0 2 8 ∷ from_reading
-
-abbrev updated : List Event
-updated = up_to_reading ++ from_reading
-
-abbrev words : List ℕ
-words = map word_of updated
+abbrev update : UpdateEvents
+update = record {
+  shape = wide;
+  boot = map (write_by 0) (tables 0x19 ++ write_to Hwcfg0 1 ∷ []);
+  before = Submit 0 2 written ∷ write_by 1 stall ∷ Judge 0 2 8 ∷ [];
+  window = drain_read ∷ (map (write_by 1) (tables 0x1b) ++ Submit 0 3 written ∷ write_by 1 release_write ∷ []);
+  after = Judge 0 3 19 ∷ [];
+}
 
 abbrev history : History
-history = record { shapes = wide ∷ []; events = updated }
+history = update_history update
 
-same_history : history_of (wide ∷ []) words ≡ history
+same_history : history_of (wide ∷ []) (all_words update) ≡ history
 same_history = refl
 
 -- ---- what is replied
@@ -118,26 +101,29 @@ after_release = refl
 -- ---- the drained reading and the release
 
 reading : IsDrainedReading history 11
-reading = first_reading wide up_to_reading from_reading (refl, (refl, (refl, (refl, (refl, (refl, (refl, (refl, (refl, (refl, (refl, tt))))))))))) drained
+reading = first_reading wide (up_to_reading update) (from_reading update) (refl, (refl, (refl, (refl, (refl, (refl, (refl, (refl, (refl, (refl, (refl, tt))))))))))) drained
 
 release : IsRelease history 20
-release = last_write wide up_to_release after_it 11 20 refl (tt, tt) reading (record { unit = 0; index = 12; value = 0; event = refl })
+release = last_write wide (up_to_release update) update.after 11 20 refl (tt, tt) reading (record { unit = 0; index = index_of Mdstall; value = 0; event = refl })
 
 -- ---- it is a live history
 
-order : BootComesFirst 3 words
+order : BootComesFirst 3 (all_words update)
 unfolding caller_of_word
-order = boot_first 3 (map word_of boot_events) (map word_of lane_events) refl refl
+order = boot_first 3 (map word_of update.boot) (map word_of (update.before ++ from_reading update)) refl refl
 
-boot_record : HasRecord (logged_in (wide ∷ []) words) 0 (image_section (image_of old))
+boot_record : HasRecord (logged_in (wide ∷ []) (all_words update)) 0 (image_section (image_of old))
 unfolding image_of writes_of member_writes rule_entries is_single lib.Count.ones lib.Count.count_trailing_zeros
 boot_record = refl
 
-lane_records : HaveRecords (logged_in (wide ∷ []) words) 1 (update_lanes old new 8 (judged ∷ judged ∷ []))
+lane_records :
+    HaveRecords (logged_in (wide ∷ []) (all_words update)) 1
+    (judged_beside (plan_commands (image_of old) (image_of new) 8) written written)
 unfolding image_of writes_of member_writes rule_entries is_single lib.Count.ones lib.Count.count_trailing_zeros plan_commands rewrites
 lane_records = (refl, (refl, (refl, tt)))
 
-rule : (rights : ℕ) → rights < 8 → IsRule (record { from = 0x80000000; size = 0x1000; rights = record { 0 = rights } })
+-- the grant is a rule
+pub rule : (rights : ℕ) → rights < 8 → IsRule (record { from = 0x80000000; size = 0x1000; rights = record { 0 = rights } })
 unfolding is_single lib.Count.ones
 rule rights p = record { from = omega arith; size = omega arith; some = omega arith; end = omega arith; top = refl; rights = p }
 
@@ -152,13 +138,7 @@ fits : (rights : ℕ) → need_refusal (with_rights rights) ≡ None
 unfolding need_refusal need_domains need_entries rule_need is_single lib.Count.ones
 fits rights = refl
 
-live : IsLiveHistory old new 8 (judged ∷ judged ∷ []) words
-live = record {
-  old_policy = policy 1 (omega arith);
-  new_policy = policy 3 (omega arith);
-  shapes = refl;
-  old_fits = fits 1;
-  new_fits = fits 3;
-  quiet = ((tt, (tt, tt)), ((tt, (tt, tt)), tt));
-  legal = record { events = event_words updated refl; order = order; boot_record = boot_record; lane_records = lane_records };
-}
+live : IsLiveHistory old new 8 (judged written ∷ judged written ∷ []) (all_words update)
+live =
+    update_in_numbers update (plan_commands (image_of old) (image_of new) 8) old new written written (policy 1 (omega arith)) (policy 3 (omega arith)) refl (fits 1) (fits 3)
+    (record { events = event_words (all_events update) refl; order = order; boot_record = boot_record; lane_records = lane_records })

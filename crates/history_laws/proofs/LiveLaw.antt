@@ -9,7 +9,8 @@ use Rattle.history_laws.specs.Live.{KeepsPolicies}
 use Rattle.history_laws.proofs.UnitStands.{flag_from}
 use Rattle.history_laws.proofs.StalledUpdate.{IsUpdating, unknown_case, before_case, after_case, sides, judged, none_between}
 
-pub keeps_policies : (old new : PolicyOf) (stalls tables : List RegPair) (h : History) (xs : List LoggedEvent) → IsUpdating old new stalls tables h xs → ((s : ℕ) → flag_from s false stalls ≡ true) → KeepsPolicies old new h
+pub keeps_policies : (old new : PolicyOf) (stalls tables : List RegPair) (h : History) (xs : List LoggedEvent)
+    → IsUpdating old new stalls tables h xs → ((s : ℕ) → flag_from s false stalls ≡ true) → KeepsPolicies old new h
 keeps_policies old new stalls tables h xs u stalled p caller q verdict event reply =
     let j = judged old new stalls tables h xs u p caller q verdict event reply in
     let between = λ (known : j.access.rrid < old.shape.rrids). none_between old new stalls tables h xs u p caller q verdict event reply j known (stalled j.access.rrid) in

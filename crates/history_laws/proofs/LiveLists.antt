@@ -29,14 +29,15 @@ use Rattle.history_laws.proofs.WriteRecords.{write_by, event_of, IsDrainRead, Is
 
 -- ---- the list's events
 
-same_events : (k : ℕ) (f : FabricState) (words : List ℕ) → map event_of (logged_from state_after_word reply_to_word k f words) ≡ events_of_words words
+same_events : (k : ℕ) (f : FabricState) (words : List ℕ)
+    → map event_of (logged_from state_after_word reply_to_word k f words) ≡ events_of_words words
 same_events k f [] = refl
-same_events k f (w ∷ ws) = by (event_of_word w) (same_events (suc k) (state_after_word f k w) ws)
+same_events k f (w ∷ ws) = by (event_of_word w) _ (same_events (suc k) (state_after_word f k w) ws)
   where
-    by : (o : Option Event) → map event_of (logged_from state_after_word reply_to_word (suc k) (state_after_word f k w) ws) ≡ events_of_words ws
-        → map event_of (logged_first k (reply_to_word f k w) o (logged_from state_after_word reply_to_word (suc k) (state_after_word f k w) ws)) ≡ with_event o (events_of_words ws)
-    by None h = h
-    by (Some e) h = ap (λ es. e ∷ es) h
+    by : (o : Option Event) (rest : List LoggedEvent) → map event_of rest ≡ events_of_words ws
+        → map event_of (logged_first k (reply_to_word f k w) o rest) ≡ with_event o (events_of_words ws)
+    by None rest h = h
+    by (Some e) rest h = ap (λ es. e ∷ es) h
 
 pub events_logged : (shapes : List Shape) (words : List ℕ) → map event_of (logged_in shapes words) ≡ events_of_words words
 events_logged shapes words = same_events 0 (fabric_at_reset shapes) words
@@ -49,7 +50,9 @@ IsBy c x = caller_of x.event ≡ c
 abbrev IsByLane : ℕ → LoggedEvent → Type 0
 IsByLane lanes x = (1 ≤ caller_of x.event) × (caller_of x.event ≤ lanes)
 
-callers : (P : ℕ → Type 0) (k : ℕ) (f : FabricState) (ws : List ℕ) → AllByRecursion IsEventWord ws → AllByRecursion (λ w. P (caller_of_word w)) ws → AllByRecursion (λ x. P (caller_of x.event)) (logged_from state_after_word reply_to_word k f ws)
+callers : (P : ℕ → Type 0) (k : ℕ) (f : FabricState) (ws : List ℕ) → AllByRecursion IsEventWord ws
+    → AllByRecursion (λ w. P (caller_of_word w)) ws
+    → AllByRecursion (λ x. P (caller_of x.event)) (logged_from state_after_word reply_to_word k f ws)
 callers P k f [] all h = tt
 callers P k f (w ∷ ws) all h =
     let e = word_event w all.0 in
@@ -67,7 +70,8 @@ record Halves (lanes : ℕ) (xs : List LoggedEvent) : Type 0 where
 more_halves : (lanes : ℕ) (x : LoggedEvent) (xs : List LoggedEvent) → IsBy 0 x → Halves lanes xs → Halves lanes (x ∷ xs)
 more_halves lanes x xs own h = record { boot = x ∷ h.boot; others = h.others; is = ap (λ ys. x ∷ ys) h.is; of_boot = (own, h.of_boot); of_lanes = h.of_lanes }
 
-halves : (lanes k : ℕ) (f : FabricState) (boot others : List ℕ) → AllByRecursion IsEventWord (boot ++ others) → AllByRecursion IsBoot boot → AllByRecursion (IsOfLane lanes) others → Halves lanes (logged_from state_after_word reply_to_word k f (boot ++ others))
+halves : (lanes k : ℕ) (f : FabricState) (boot others : List ℕ) → AllByRecursion IsEventWord (boot ++ others) → AllByRecursion IsBoot boot
+    → AllByRecursion (IsOfLane lanes) others → Halves lanes (logged_from state_after_word reply_to_word k f (boot ++ others))
 halves lanes k f [] others all p q = record { boot = []; others = logged_from state_after_word reply_to_word k f others; is = refl; of_boot = tt; of_lanes = callers (λ c. (1 ≤ c) × (c ≤ lanes)) k f others all q }
 halves lanes k f (w ∷ ws) others all p q =
     let e = word_event w all.0 in
@@ -75,7 +79,8 @@ halves lanes k f (w ∷ ws) others all p q =
     subst (λ o. Halves lanes (logged_first k (reply_to_word f k w) o (logged_from state_after_word reply_to_word (suc k) (state_after_word f k w) (ws ++ others)))) (sym e.back)
     (more_halves lanes (record { place = k; event = e.event; reply = reply_to_word f k w }) _ own (halves lanes (suc k) (state_after_word f k w) ws others all.1 p.1 q))
 
-logged_halves : (lanes : ℕ) (shapes : List Shape) (words : List ℕ) → AllByRecursion IsEventWord words → BootComesFirst lanes words → Halves lanes (logged_in shapes words)
+logged_halves : (lanes : ℕ) (shapes : List Shape) (words : List ℕ) → AllByRecursion IsEventWord words → BootComesFirst lanes words
+    → Halves lanes (logged_in shapes words)
 logged_halves lanes shapes words all b =
     subst (λ ws. Halves lanes (logged_from state_after_word reply_to_word 0 (fabric_at_reset shapes) ws)) (sym b.is)
     (halves lanes 0 (fabric_at_reset shapes) b.boot b.others (subst (AllByRecursion IsEventWord) b.is all) b.of_boot b.of_lanes)
@@ -86,7 +91,8 @@ all_of : {X : Type 0} (P Q : X → Type 0) (xs : List X) → ((x : X) → P x �
 all_of P Q [] each h = tt
 all_of P Q (x ∷ xs) each h = (each x h.0, all_of P Q xs each h.1)
 
-all_with : {X : Type 0} (P Q R : X → Type 0) (xs : List X) → ((x : X) → P x → Q x → R x) → AllByRecursion P xs → AllByRecursion Q xs → AllByRecursion R xs
+all_with : {X : Type 0} (P Q R : X → Type 0) (xs : List X) → ((x : X) → P x → Q x → R x) → AllByRecursion P xs → AllByRecursion Q xs
+    → AllByRecursion R xs
 all_with P Q R [] each g h = tt
 all_with P Q R (x ∷ xs) each g h = (each x g.0 h.0, all_with P Q R xs each g.1 h.1)
 
@@ -121,14 +127,17 @@ if_there : {A : Type 0} {P : Type 0} (o : Option A) → IfSome o (λ a. P) → I
 if_there None f h = absurd (let n : false ≡ true = h in cc)
 if_there (Some a) f h = f
 
-pub lanes_quiet : (xs : List LoggedEvent) (i : ℕ) (ss : List SectionOf) → HaveRecords xs i ss → AllByRecursion IsQuietSection ss → (c : ℕ) → i ≤ c → c < i + length ss → HaveNoWrites (events_by c xs)
+pub lanes_quiet : (xs : List LoggedEvent) (i : ℕ) (ss : List SectionOf) → HaveRecords xs i ss → AllByRecursion IsQuietSection ss → (c : ℕ)
+    → i ≤ c → c < i + length ss → HaveNoWrites (events_by c xs)
 lanes_quiet xs i [] records q c l u = absurd (omega arith)
 lanes_quiet xs i (s ∷ ss) records q c l u = ⊎_elim
     (λ (e : i ≡ c). subst (λ n. HaveNoWrites (events_by n xs)) e (if_there (end_of_commands i s.commands [] (events_by i xs)) (quiet_record i s.commands q.0 [] (events_by i xs)) records.0))
     (λ (ne : i ≡ c → ⊥). let less : i + 1 ≤ c = ⊎_elim (λ (a : i < c). omega arith) (λ (b : c ≤ i). absurd (ne (omega arith))) (cases_lt i c) in lanes_quiet xs (i + 1) ss records.1 q.1 c less (omega arith))
     (cases_eq i c)
 
-others_quiet : (lanes : ℕ) (xs : List LoggedEvent) (h : Halves (suc lanes) xs) → ((c : ℕ) → 2 ≤ c → c < 2 + lanes → HaveNoWrites (events_by c xs)) → AllByRecursion (λ x. is_by 1 x ≡ false → IsNoLoggedWrite x) h.others
+others_quiet : (lanes : ℕ) (xs : List LoggedEvent) (h : Halves (suc lanes) xs)
+    → ((c : ℕ) → 2 ≤ c → c < 2 + lanes → HaveNoWrites (events_by c xs))
+    → AllByRecursion (λ x. is_by 1 x ≡ false → IsNoLoggedWrite x) h.others
 others_quiet lanes xs h each =
     let P : ℕ → LoggedEvent → Type 0 = λ c x. is_by c x ≡ true → (2 ≤ c) × (c < 2 + lanes) → IsNoLoggedWrite x in
     let all = all_each P xs (λ c. all_passing (λ x. (2 ≤ c) × (c < 2 + lanes) → IsNoLoggedWrite x) (is_by c) xs (all_under IsNoLoggedWrite (events_by c xs) (λ (b : (2 ≤ c) × (c < 2 + lanes)). each c b.0 b.1))) in
@@ -163,7 +172,9 @@ plan_zero stalls tables xs r =
     (all_both IsLoggedOnZero r.first (r.reads ++ r.rest) (writes_zero 1 stalls r.first r.stalling)
     (all_both IsLoggedOnZero r.reads r.rest (all_of IsDrainRead IsLoggedOnZero r.reads (λ x e. subst IsOnZero (sym e) tt) r.events) (ending r.rest r.ends)))
   where
-    ending : {A B : Type 0} (rest : List LoggedEvent) → (A × (rest ≡ [])) ⊎ (B × (map event_of rest ≡ map (write_by 1) (tables ++ release_write ∷ []))) → AllByRecursion IsLoggedOnZero rest
+    ending : {A B : Type 0} (rest : List LoggedEvent)
+        → (A × (rest ≡ [])) ⊎ (B × (map event_of rest ≡ map (write_by 1) (tables ++ release_write ∷ [])))
+        → AllByRecursion IsLoggedOnZero rest
     ending rest (inl e) = subst (AllByRecursion IsLoggedOnZero) (sym e.1) tt
     ending rest (inr e) = writes_zero 1 (tables ++ release_write ∷ []) rest e.1
 
@@ -178,16 +189,19 @@ pub record IsLive (old stalls tables : List RegPair) (xs : List LoggedEvent) : T
   pub quiet : AllByRecursion (λ x. is_by 1 x ≡ false → IsNoLoggedWrite x) others
   pub on_zero : AllByRecursion IsLoggedOnZero xs
 
-on_zero_by : (xs : List LoggedEvent) → AllByRecursion (λ x. is_by 1 x ≡ false → IsNoLoggedWrite x) xs → AllByRecursion IsLoggedOnZero (events_by 1 xs) → AllByRecursion IsLoggedOnZero xs
+on_zero_by : (xs : List LoggedEvent) → AllByRecursion (λ x. is_by 1 x ≡ false → IsNoLoggedWrite x) xs
+    → AllByRecursion IsLoggedOnZero (events_by 1 xs) → AllByRecursion IsLoggedOnZero xs
 on_zero_by xs quiet own =
     all_with (λ x. is_by 1 x ≡ false → IsNoLoggedWrite x) (λ x. is_by 1 x ≡ true → IsLoggedOnZero x) IsLoggedOnZero xs (λ x f g. by x (is_by 1 x) refl f g) quiet (all_passing IsLoggedOnZero (is_by 1) xs own)
   where
-    by : (x : LoggedEvent) (b : Bool) → is_by 1 x ≡ b → (is_by 1 x ≡ false → IsNoLoggedWrite x) → (is_by 1 x ≡ true → IsLoggedOnZero x) → IsLoggedOnZero x
+    by : (x : LoggedEvent) (b : Bool) → is_by 1 x ≡ b → (is_by 1 x ≡ false → IsNoLoggedWrite x) → (is_by 1 x ≡ true → IsLoggedOnZero x)
+        → IsLoggedOnZero x
     by x true e f g = g e
     by x false e f g = quiet_zero x.event (f e)
 
-pub live_list : (shapes : List Shape) (old stalls tables : List RegPair) (polls : ℕ) (boot plan : SectionOf) (lanes : List SectionOf) (words : List ℕ)
-    → boot.commands ≡ map write_command old → plan.commands ≡ plan_of stalls tables polls → AllByRecursion IsQuietSection lanes
+pub live_list : (shapes : List Shape) (old stalls tables : List RegPair) (polls : ℕ) (boot plan : SectionOf)
+    → (lanes : List SectionOf) (words : List ℕ) → boot.commands ≡ map write_command old → plan.commands ≡ plan_of stalls tables polls
+    → AllByRecursion IsQuietSection lanes
     → IsLegalHistory shapes boot (plan ∷ lanes) words → IsLive old stalls tables (logged_in shapes words)
 live_list shapes old stalls tables polls boot plan lanes words b p q legal =
     let h = logged_halves (suc (length lanes)) shapes words legal.events legal.order in

@@ -26,7 +26,8 @@ use Rattle.history_laws.proofs.LiveLaw.{keeps_policies}
 use Rattle.history_laws.proofs.TableRewrites.{tables_between, plan_is, rewrites_between}
 
 -- A submission is of a valid access.
-pub valid_access : (shapes : List Shape) (words : List ℕ) → AllByRecursion IsEventWord words → (k caller : ℕ) (a : Access) → IsSubmission (history_of shapes words) k 0 caller a → IsValidAccess a
+pub valid_access : (shapes : List Shape) (words : List ℕ) → AllByRecursion IsEventWord words → (k caller : ℕ) (a : Access)
+    → IsSubmission (history_of shapes words) k 0 caller a → IsValidAccess a
 valid_access shapes words all k caller a q = by (slice_get words k) refl
   where
     h : History

@@ -24,7 +24,8 @@ found_kept f g (x ∷ xs) e =
     (λ t e. found_later f x xs (found_kept f g xs e)) e
 
 -- No kept element passes.
-pub none_kept : {X : Type 0} (f g : X → Bool) (xs : List X) → list_any f (filter g xs) ≡ false → (k : ℕ) (x : X) → slice_get xs k ≡ Some x → g x ≡ true → f x ≡ false
+pub none_kept : {X : Type 0} (f g : X → Bool) (xs : List X) → list_any f (filter g xs) ≡ false → (k : ℕ) (x : X) → slice_get xs k ≡ Some x
+    → g x ≡ true → f x ≡ false
 none_kept f g [] e k x q t = absurd (let n : None ≡ Some x = q in cc)
 none_kept f g (y ∷ ys) e zero x q t =
     let same : y ≡ x = cc in

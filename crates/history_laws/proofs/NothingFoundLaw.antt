@@ -34,7 +34,8 @@ others place caller (x ∷ xs) h =
     (λ t e. absurd (let n : Some x ≡ None = e in cc))
     (λ t e. (λ p c. let n : true ≡ false = sym (and_from (eqb x.place place) (eqb x.caller caller) (eq-eqb x.place place p) (eq-eqb x.caller caller c)) ∙ t in cc, others place caller xs e)) h
 
-found_open : (place caller : ℕ) (x : UnitState) (item : Submission) → find (is_item place caller) x.submissions ≡ Some item → HasNoneOpen place caller x → ⊥
+found_open : (place caller : ℕ) (x : UnitState) (item : Submission) → find (is_item place caller) x.submissions ≡ Some item
+    → HasNoneOpen place caller x → ⊥
 found_open place caller x item e none =
     let f = all_found (IsOther place caller) (is_item place caller) x.submissions item e (recursion_from_All (IsOther place caller) x.submissions none) in
     let b = and_parts (eqb item.place place) (eqb item.caller caller) f.1 in
@@ -61,7 +62,8 @@ past us u q = ⊎_elim {C = length us ≤ u}
     (λ c. absurd (let n : Some c.0 ≡ None = sym c.2 ∙ q in cc)) (λ c. c.0) (slice_get_cases us u).1
 
 -- An event on a unit does what it does there, where the unit is there.
-by_unit : (s : FabricState) (p : ℕ) (e : Event) (u : ℕ) (C : Type 0) (o : Option UnitState) → slice_get s.units u ≡ o → (length s.units ≤ u → C)
+by_unit : (s : FabricState) (p : ℕ) (e : Event) (u : ℕ) (C : Type 0) (o : Option UnitState) → slice_get s.units u ≡ o
+    → (length s.units ≤ u → C)
     → ((x : UnitState) → u < length s.units → slice_get s.units u ≡ Some x → Decided x (unit_step p x e) C)
     → Decided s (whole s (step_at p s.units e u o)) C
 by_unit s p e u C None q none some = inl (refl, none (past s.units u q))

@@ -55,13 +55,15 @@ all_boot words h =
 
 -- ---- their record
 
-logged_entries : (k : ℕ) (s : FabricState) (es : List Event) → AllByRecursion IsValidEvent es → logged_from state_after_word reply_to_word k s (map word_of es) ≡ boot_entries k s es
+logged_entries : (k : ℕ) (s : FabricState) (es : List Event) → AllByRecursion IsValidEvent es
+    → logged_from state_after_word reply_to_word k s (map word_of es) ≡ boot_entries k s es
 logged_entries k s [] v = refl
 logged_entries k s (e ∷ es) v =
     ap (λ o. logged_first k (reply_to_word s k (word_of e)) o (logged_from state_after_word reply_to_word (suc k) (state_after_word s k (word_of e)) (map word_of es))) (event_of_word-word_of e v.0)
     ∙ ap (λ xs. record { place = k; event = e; reply = reply_to_word s k (word_of e) } ∷ xs) (logged_entries (suc k) (state_after_word s k (word_of e)) es v.1)
 
-own_entries : (k : ℕ) (s : FabricState) (es : List Event) → AllByRecursion (λ e. caller_of e ≡ 0) es → events_by 0 (boot_entries k s es) ≡ boot_entries k s es
+own_entries : (k : ℕ) (s : FabricState) (es : List Event) → AllByRecursion (λ e. caller_of e ≡ 0) es
+    → events_by 0 (boot_entries k s es) ≡ boot_entries k s es
 own_entries k s [] h = refl
 own_entries k s (e ∷ es) h =
     let x : LoggedEvent = record { place = k; event = e; reply = reply_to_word s k (word_of e) } in
@@ -69,7 +71,8 @@ own_entries k s (e ∷ es) h =
     ap (λ b. cond b (x ∷ filter (is_by 0) rest) (filter (is_by 0) rest)) (eq-eqb (caller_of e) 0 h.0)
     ∙ ap (λ xs. x ∷ xs) (own_entries (suc k) (state_after_word s k (word_of e)) es h.1)
 
-record_of : (shapes : List Shape) (words : List ℕ) (b : BootEvents words) → events_by 0 (logged_in shapes words) ≡ boot_entries 0 (fabric_at_reset shapes) b.events
+record_of : (shapes : List Shape) (words : List ℕ) (b : BootEvents words)
+    → events_by 0 (logged_in shapes words) ≡ boot_entries 0 (fabric_at_reset shapes) b.events
 record_of shapes words b =
     ap (λ ws. events_by 0 (logged_in shapes ws)) b.is ∙ ap (events_by 0) (logged_entries 0 (fabric_at_reset shapes) b.events b.valid)
     ∙ own_entries 0 (fabric_at_reset shapes) b.events b.own

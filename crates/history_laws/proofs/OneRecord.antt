@@ -29,8 +29,13 @@ nothing : {A B : Type 0} {P : Type 0} (C : Option A → Option B) (b : B) → C 
 nothing C b none h = absurd (let n : None ≡ Some b = sym none ∙ h in cc)
 
 -- where a choice inside goes
-chosen : {A B : Type 0} (C : Option A → Option B) (t u : Bool) (x y : Option A) (o : Option B) → t ≡ u → C (if t then x else y) ≡ o → C (if u then x else y) ≡ o
+chosen : {A B : Type 0} (C : Option A → Option B) (t u : Bool) (x y : Option A) (o : Option B) → t ≡ u → C (if t then x else y) ≡ o
+    → C (if u then x else y) ≡ o
 chosen C t u x y o e h = subst (λ (z : Bool). C (if z then x else y) ≡ o) e h
+
+-- what comes after a stage, from the requester of the next
+abbrev Onward : Type 0
+Onward = ℕ → List LoggedEvent → Option (List LoggedEvent)
 
 module _ {S : Type 0} (after : S → ℕ → ℕ → S) (reply : S → ℕ → ℕ → Reply) where
   -- events from a place on, each with its place and reply
@@ -48,9 +53,11 @@ module _ {S : Type 0} (after : S → ℕ → ℕ → S) (reply : S → ℕ → �
 
   abbrev AfterOne : (Option (LoggedEvent × List LoggedEvent) → Option SectionEnd) → SectionEnd → SectionEnd → ℕ → Type 0
   AfterOne C a b k = (r : Reply) (x y : Event) (s : S) (v w : List Event)
-      → C (Some (record { place = k; event = x; reply = r }, entries (suc k) s v)) ≡ Some a → C (Some (record { place = k; event = y; reply = r }, entries (suc k) s w)) ≡ Some b → Same v w
+      → C (Some (record { place = k; event = x; reply = r }, entries (suc k) s v)) ≡ Some a
+      → C (Some (record { place = k; event = y; reply = r }, entries (suc k) s w)) ≡ Some b → Same v w
 
-  one_same : (C : Option (LoggedEvent × List LoggedEvent) → Option SectionEnd) → C None ≡ None → (e : Event) (k : ℕ) (s : S) (v w : List Event) (a b : SectionEnd)
+  one_same : (C : Option (LoggedEvent × List LoggedEvent) → Option SectionEnd) → C None ≡ None
+      → (e : Event) (k : ℕ) (s : S) (v w : List Event) (a b : SectionEnd)
       → C (take_event e (entries k s v)) ≡ Some a → C (take_event e (entries k s w)) ≡ Some b → AfterOne C a b k → Same v w
   one_same C none e k s [] w a b h g go = nothing C a none h
   one_same C none e k s (x ∷ v) [] a b h g go = nothing C b none g
@@ -68,8 +75,10 @@ module _ {S : Type 0} (after : S → ℕ → ℕ → S) (reply : S → ℕ → �
 
   -- ---- a submission of one event or two
 
-  submission_same : (C : Option (LoggedEvent × List LoggedEvent) → Option SectionEnd) → C None ≡ None → (unit caller : ℕ) (access : Access) (k : ℕ) (s : S) (v w : List Event) (a b : SectionEnd)
-      → C (take_submission unit caller access (entries k s v)) ≡ Some a → C (take_submission unit caller access (entries k s w)) ≡ Some b → ((j : ℕ) → AfterOne C a b j) → Same v w
+  submission_same : (C : Option (LoggedEvent × List LoggedEvent) → Option SectionEnd) → C None ≡ None
+      → (unit caller : ℕ) (access : Access) (k : ℕ) (s : S) (v w : List Event) (a b : SectionEnd)
+      → C (take_submission unit caller access (entries k s v)) ≡ Some a → C (take_submission unit caller access (entries k s w)) ≡ Some b
+      → ((j : ℕ) → AfterOne C a b j) → Same v w
   submission_same C none unit caller access k s v w a b h g go =
       by_test (is_narrow access) _
       (λ t. one_same C none (events.Submit unit caller access) k s v w a b (chosen C (is_narrow access) true _ _ (Some a) t h) (chosen C (is_narrow access) true _ _ (Some b) t g) (go k))
@@ -82,7 +91,8 @@ module _ {S : Type 0} (after : S → ℕ → ℕ → S) (reply : S → ℕ → �
   AfterJudgements C a b = (r : Reply) (k : ℕ) (s : S) (v w : List Event)
       → C (Some (r, entries k s v)) ≡ Some a → C (Some (r, entries k s w)) ≡ Some b → Same v w
 
-  judged_same : (C : Option (Reply × List LoggedEvent) → Option SectionEnd) → C None ≡ None → (n : ℕ) (e : Event) (k : ℕ) (s : S) (v w : List Event) (a b : SectionEnd)
+  judged_same : (C : Option (Reply × List LoggedEvent) → Option SectionEnd) → C None ≡ None
+      → (n : ℕ) (e : Event) (k : ℕ) (s : S) (v w : List Event) (a b : SectionEnd)
       → C (judgements n e (entries k s v)) ≡ Some a → C (judgements n e (entries k s w)) ≡ Some b → AfterJudgements C a b → Same v w
   judged_same C none zero e k s v w a b h g go = nothing C a none h
   judged_same C none (suc n) e k s [] w a b h g go = nothing C a none h
@@ -107,7 +117,8 @@ module _ {S : Type 0} (after : S → ℕ → ℕ → S) (reply : S → ℕ → �
   AfterPolls C a b = (hit : Bool) (k : ℕ) (s : S) (v w : List Event)
       → C (Some (hit, entries k s v)) ≡ Some a → C (Some (hit, entries k s w)) ≡ Some b → Same v w
 
-  polled_same : (C : Option (Bool × List LoggedEvent) → Option SectionEnd) → C None ≡ None → (n : ℕ) (e : Event) (mask value : ℕ) (k : ℕ) (s : S) (v w : List Event) (a b : SectionEnd)
+  polled_same : (C : Option (Bool × List LoggedEvent) → Option SectionEnd) → C None ≡ None
+      → (n : ℕ) (e : Event) (mask value : ℕ) (k : ℕ) (s : S) (v w : List Event) (a b : SectionEnd)
       → C (polls n e mask value (entries k s v)) ≡ Some a → C (polls n e mask value (entries k s w)) ≡ Some b → AfterPolls C a b → Same v w
   polled_same C none zero e mask value k s v w a b h g go = nothing C a none h
   polled_same C none (suc n) e mask value k s [] w a b h g go = nothing C a none h
@@ -132,17 +143,21 @@ module _ {S : Type 0} (after : S → ℕ → ℕ → S) (reply : S → ℕ → �
   AfterStages C a b = (k : ℕ) (s : S) (v w : List Event) → C (Some (entries k s v)) ≡ Some a → C (Some (entries k s w)) ≡ Some b → Same v w
 
   -- what comes after a stage, from wherever on
-  abbrev IsGoingOn : (Option (List LoggedEvent) → Option SectionEnd) → (ℕ → List LoggedEvent → Option (List LoggedEvent)) → SectionEnd → SectionEnd → Type 0
+  abbrev IsGoingOn : (Option (List LoggedEvent) → Option SectionEnd) → Onward → SectionEnd
+      → SectionEnd → Type 0
   IsGoingOn C more a b = (next k : ℕ) (s : S) (v w : List Event) → C (more next (entries k s v)) ≡ Some a → C (more next (entries k s w)) ≡ Some b → Same v w
 
-  following_same : (C : Option (List LoggedEvent) → Option SectionEnd) (more : ℕ → List LoggedEvent → Option (List LoggedEvent)) (a b : SectionEnd)
+  following_same : (C : Option (List LoggedEvent) → Option SectionEnd) (more : Onward) (a b : SectionEnd)
       → IsGoingOn C more a b → AfterStages C a b
-      → (o : Option ℕ) (k : ℕ) (s : S) (v w : List Event) → C (stage_following more o (entries k s v)) ≡ Some a → C (stage_following more o (entries k s w)) ≡ Some b → Same v w
+      → (o : Option ℕ) (k : ℕ) (s : S) (v w : List Event) → C (stage_following more o (entries k s v)) ≡ Some a
+      → C (stage_following more o (entries k s w)) ≡ Some b → Same v w
   following_same C more a b each go None k s v w h g = go k s v w h g
   following_same C more a b each go (Some next) k s v w h g = each next k s v w h g
 
-  stage_same : (C : Option (List LoggedEvent) → Option SectionEnd) → C None ≡ None → (caller max unit : ℕ) (more : ℕ → List LoggedEvent → Option (List LoggedEvent)) (e : Event) (k : ℕ) (s : S) (v w : List Event) (a b : SectionEnd)
-      → C (stage_piece caller max unit more (take_event e (entries k s v))) ≡ Some a → C (stage_piece caller max unit more (take_event e (entries k s w))) ≡ Some b → IsGoingOn C more a b → AfterStages C a b → Same v w
+  stage_same : (C : Option (List LoggedEvent) → Option SectionEnd) → C None ≡ None
+      → (caller max unit : ℕ) (more : Onward) (e : Event) (k : ℕ) (s : S) (v w : List Event) (a b : SectionEnd)
+      → C (stage_piece caller max unit more (take_event e (entries k s v))) ≡ Some a
+      → C (stage_piece caller max unit more (take_event e (entries k s w))) ≡ Some b → IsGoingOn C more a b → AfterStages C a b → Same v w
   stage_same C none caller max unit more e k s v w a b h g each go =
       one_same (λ o. C (stage_piece caller max unit more o)) none e k s v w a b h g
       (λ r x y s' v' w' p q. by_test (is_taken r) _
@@ -150,8 +165,10 @@ module _ {S : Type 0} (after : S → ℕ → ℕ → S) (reply : S → ℕ → �
       (λ r2 k2 s2 v2 w2 p2 q2. following_same C more a b each go (next_requester r2) k2 s2 v2 w2 p2 q2))
       (λ t. go (suc k) s' v' w' (chosen C _ false _ _ (Some a) t p) (chosen C _ false _ _ (Some b) t q)))
 
-  one_stage_same : (C : Option (List LoggedEvent) → Option SectionEnd) → C None ≡ None → (caller max unit : ℕ) (access : Access) (more : ℕ → List LoggedEvent → Option (List LoggedEvent)) (k : ℕ) (s : S) (v w : List Event) (a b : SectionEnd)
-      → C (one_stage caller max unit access more (entries k s v)) ≡ Some a → C (one_stage caller max unit access more (entries k s w)) ≡ Some b → IsGoingOn C more a b → AfterStages C a b → Same v w
+  one_stage_same : (C : Option (List LoggedEvent) → Option SectionEnd) → C None ≡ None
+      → (caller max unit : ℕ) (access : Access) (more : Onward) (k : ℕ) (s : S) (v w : List Event) (a b : SectionEnd)
+      → C (one_stage caller max unit access more (entries k s v)) ≡ Some a
+      → C (one_stage caller max unit access more (entries k s w)) ≡ Some b → IsGoingOn C more a b → AfterStages C a b → Same v w
   one_stage_same C none caller max unit access more k s v w a b h g each go =
       by_test (is_narrow access) _
       (λ t. stage_same C none caller max unit more (events.Submit unit caller access) k s v w a b (chosen C (is_narrow access) true _ _ (Some a) t h) (chosen C (is_narrow access) true _ _ (Some b) t g) each go)
@@ -160,8 +177,10 @@ module _ {S : Type 0} (after : S → ℕ → ℕ → S) (reply : S → ℕ → �
       (λ u. stage_same C none caller max unit more (wide_event unit caller access) (suc k) s' v' w' a b (chosen C _ true _ _ (Some a) u p) (chosen C _ true _ _ (Some b) u q) each go)
       (λ u. go (suc k) s' v' w' (chosen C _ false _ _ (Some a) u p) (chosen C _ false _ _ (Some b) u q))))
 
-  stages_same : (C : Option (List LoggedEvent) → Option SectionEnd) → C None ≡ None → (caller max : ℕ) (access : Access) (us : List ℕ) (rrid k : ℕ) (s : S) (v w : List Event) (a b : SectionEnd)
-      → C (through_stages caller max access us rrid (entries k s v)) ≡ Some a → C (through_stages caller max access us rrid (entries k s w)) ≡ Some b → AfterStages C a b → Same v w
+  stages_same : (C : Option (List LoggedEvent) → Option SectionEnd) → C None ≡ None
+      → (caller max : ℕ) (access : Access) (us : List ℕ) (rrid k : ℕ) (s : S) (v w : List Event) (a b : SectionEnd)
+      → C (through_stages caller max access us rrid (entries k s v)) ≡ Some a
+      → C (through_stages caller max access us rrid (entries k s w)) ≡ Some b → AfterStages C a b → Same v w
   stages_same C none caller max access [] rrid k s v w a b h g go = go k s v w h g
   stages_same C none caller max access (u ∷ us) rrid k s v w a b h g go =
       one_stage_same C none caller max u (record access { rrid = rrid }) (through_stages caller max access us) k s v w a b h g
@@ -169,7 +188,8 @@ module _ {S : Type 0} (after : S → ℕ → ℕ → S) (reply : S → ℕ → �
 
   -- ---- a section
 
-  nothing_same : (end : SectionEnd) (k : ℕ) (s : S) (v w : List Event) (a b : SectionEnd) → nothing_left end (entries k s v) ≡ Some a → nothing_left end (entries k s w) ≡ Some b → Same v w
+  nothing_same : (end : SectionEnd) (k : ℕ) (s : S) (v w : List Event) (a b : SectionEnd) → nothing_left end (entries k s v) ≡ Some a
+      → nothing_left end (entries k s w) ≡ Some b → Same v w
   nothing_same end k s [] [] a b h g = refl
   nothing_same end k s [] (y ∷ w) a b h g = absurd (let n : None ≡ Some b = g in cc)
   nothing_same end k s (x ∷ v) w a b h g = absurd (let n : None ≡ Some a = h in cc)
@@ -178,15 +198,19 @@ module _ {S : Type 0} (after : S → ℕ → ℕ → S) (reply : S → ℕ → �
   IsDetermined caller cs = (slots : List (Option OpenSlot)) (k : ℕ) (s : S) (v w : List Event) (a b : SectionEnd)
       → end_of_commands caller cs slots (entries k s v) ≡ Some a → end_of_commands caller cs slots (entries k s w) ≡ Some b → Same v w
 
-  slot_same : (caller : ℕ) (cs : List Command) → IsDetermined caller cs → (max : ℕ) (slots : List (Option OpenSlot)) (i : ℕ) (o : Option OpenSlot) (k : ℕ) (s : S) (v w : List Event) (a b : SectionEnd)
-      → after_piece (end_of_commands caller cs) (settle_piece caller max slots i o (entries k s v)) ≡ Some a → after_piece (end_of_commands caller cs) (settle_piece caller max slots i o (entries k s w)) ≡ Some b → Same v w
+  slot_same : (caller : ℕ) (cs : List Command) → IsDetermined caller cs
+      → (max : ℕ) (slots : List (Option OpenSlot)) (i : ℕ) (o : Option OpenSlot) (k : ℕ) (s : S) (v w : List Event) (a b : SectionEnd)
+      → after_piece (end_of_commands caller cs) (settle_piece caller max slots i o (entries k s v)) ≡ Some a
+      → after_piece (end_of_commands caller cs) (settle_piece caller max slots i o (entries k s w)) ≡ Some b → Same v w
   slot_same caller cs rest max slots i None k s v w a b h g = rest slots k s v w a b h g
   slot_same caller cs rest max slots i (Some slot) k s v w a b h g =
       judged_same (λ o. after_piece (end_of_commands caller cs) (settled slots i o)) refl max (events.Judge slot.unit caller slot.place) k s v w a b h g
       (λ r k' s' v' w' p q. rest (closed_by r i slots) k' s' v' w' a b p q)
 
-  until_same : (caller : ℕ) (cs : List Command) → IsDetermined caller cs → (slots : List (Option OpenSlot)) (a b : SectionEnd) (hit : Bool) (k : ℕ) (s : S) (v w : List Event)
-      → after_piece (end_of_commands caller cs) (until_piece slots (Some (hit, entries k s v))) ≡ Some a → after_piece (end_of_commands caller cs) (until_piece slots (Some (hit, entries k s w))) ≡ Some b → Same v w
+  until_same : (caller : ℕ) (cs : List Command) → IsDetermined caller cs
+      → (slots : List (Option OpenSlot)) (a b : SectionEnd) (hit : Bool) (k : ℕ) (s : S) (v w : List Event)
+      → after_piece (end_of_commands caller cs) (until_piece slots (Some (hit, entries k s v))) ≡ Some a
+      → after_piece (end_of_commands caller cs) (until_piece slots (Some (hit, entries k s w))) ≡ Some b → Same v w
   until_same caller cs rest slots a b true k s v w h g = rest slots k s v w a b h g
   until_same caller cs rest slots a b false k s v w h g = nothing_same Stopped k s v w a b h g
 

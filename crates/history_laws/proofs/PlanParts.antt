@@ -5,6 +5,8 @@ use Rattle.std.specs.List.{AllByRecursion}
 use Rattle.std.proofs.lemmas.Bool.{ne_eqb, cond-false}
 use Rattle.std.proofs.lemmas.List.{take-append-drop}
 use Rattle.std.proofs.lemmas.List.Elements.{filter-append}
+use Rattle.event_words.specs.Registers.{index_of}
+use Rattle.event_words.specs.declared.register.Register.TheVariants.{Mdstall, Rridscp}
 use Rattle.event_words.specs.declared.event.Event.{Event}
 use Rattle.event_words.specs.declared.event.Event.TheVariants.{RegWrite}
 use Rattle.event_words.specs.declared.record.LoggedEvent.{LoggedEvent}
@@ -37,11 +39,13 @@ silent (RegWrite unit caller index value) h = absurd h
 silent _ h = refl
 
 -- only caller 1 writes
-pub of_one : (xs : List LoggedEvent) → AllByRecursion (λ x. is_by 1 x ≡ false → IsNoLoggedWrite x) xs → writes_in xs ≡ writes_in (events_by 1 xs)
+pub of_one : (xs : List LoggedEvent) → AllByRecursion (λ x. is_by 1 x ≡ false → IsNoLoggedWrite x) xs
+    → writes_in xs ≡ writes_in (events_by 1 xs)
 of_one [] h = refl
 of_one (x ∷ xs) h = by (is_by 1 x) refl (of_one xs h.1)
   where
-    by : (b : Bool) → is_by 1 x ≡ b → writes_in xs ≡ writes_in (filter (is_by 1) xs) → writes_in (x ∷ xs) ≡ writes_in (cond b (x ∷ filter (is_by 1) xs) (filter (is_by 1) xs))
+    by : (b : Bool) → is_by 1 x ≡ b → writes_in xs ≡ writes_in (filter (is_by 1) xs)
+        → writes_in (x ∷ xs) ≡ writes_in (cond b (x ∷ filter (is_by 1) xs) (filter (is_by 1) xs))
     by true e rest = ap (λ ws. write_of x.event ++ ws) rest
     by false e rest = ap (λ ws. ws ++ writes_in xs) (silent x.event (h.0 e)) ∙ rest
 
@@ -50,7 +54,8 @@ pub of_none : (xs : List LoggedEvent) → AllByRecursion (λ x. is_by 1 x ≡ tr
 of_none [] h = refl
 of_none (x ∷ xs) h = by (is_by 1 x) refl (of_none xs h.1)
   where
-    by : (b : Bool) → is_by 1 x ≡ b → writes_in (filter (is_by 1) xs) ≡ [] → writes_in (cond b (x ∷ filter (is_by 1) xs) (filter (is_by 1) xs)) ≡ []
+    by : (b : Bool) → is_by 1 x ≡ b → writes_in (filter (is_by 1) xs) ≡ []
+        → writes_in (cond b (x ∷ filter (is_by 1) xs) (filter (is_by 1) xs)) ≡ []
     by true e rest = ap (λ ws. ws ++ writes_in (filter (is_by 1) xs)) (silent x.event (h.0 e)) ∙ rest
     by false e rest = rest
 
@@ -71,7 +76,8 @@ pub own_cut : (m : ℕ) (xs : List LoggedEvent) → own_before m xs ++ own_from 
 own_cut m xs = sym (filter-append (is_by 1) (take m xs) (drop m xs)) ∙ ap (events_by 1) (take-append-drop m xs)
 
 -- an event of caller 1 is the first from its place on
-pub own_here : (m : ℕ) (xs : List LoggedEvent) (x : LoggedEvent) → slice_get xs m ≡ Some x → is_by 1 x ≡ true → own_from m xs ≡ x ∷ own_from (suc m) xs
+pub own_here : (m : ℕ) (xs : List LoggedEvent) (x : LoggedEvent) → slice_get xs m ≡ Some x → is_by 1 x ≡ true
+    → own_from m xs ≡ x ∷ own_from (suc m) xs
 own_here m [] x h e = absurd (let n : None ≡ Some x = h in cc)
 own_here zero (y ∷ xs) x h e =
     let same : y ≡ x = cc in
@@ -85,12 +91,14 @@ before_longer (suc m) zero xs l = absurd (omega arith)
 before_longer (suc m) (suc n) [] l = ([], refl)
 before_longer (suc m) (suc n) (x ∷ xs) l = by (is_by 1 x) (before_longer m n xs (omega arith))
   where
-    by : (b : Bool) → (ys : List LoggedEvent) × (own_before n xs ≡ own_before m xs ++ ys) → (ys : List LoggedEvent) × (cond b (x ∷ own_before n xs) (own_before n xs) ≡ cond b (x ∷ own_before m xs) (own_before m xs) ++ ys)
+    by : (b : Bool) → (ys : List LoggedEvent) × (own_before n xs ≡ own_before m xs ++ ys)
+        → (ys : List LoggedEvent) × (cond b (x ∷ own_before n xs) (own_before n xs) ≡ cond b (x ∷ own_before m xs) (own_before m xs) ++ ys)
     by true more = (more.0, ap (λ zs. x ∷ zs) more.1)
     by false more = more
 
 -- a write from a place on
-pub write_there : (m n : ℕ) (xs : List LoggedEvent) (x : LoggedEvent) (w : RegPair) → m ≤ n → slice_get xs n ≡ Some x → is_by 1 x ≡ true → write_of x.event ≡ w ∷ [] → writes_in (own_from m xs) ≡ [] → ⊥
+pub write_there : (m n : ℕ) (xs : List LoggedEvent) (x : LoggedEvent) (w : RegPair) → m ≤ n → slice_get xs n ≡ Some x → is_by 1 x ≡ true
+    → write_of x.event ≡ w ∷ [] → writes_in (own_from m xs) ≡ [] → ⊥
 write_there m n [] x w l h e v z = absurd (let q : None ≡ Some x = h in cc)
 write_there zero zero (y ∷ xs) x w l h e v z =
     let here = own_here zero (y ∷ xs) x h e in
@@ -113,17 +121,21 @@ IsUpdate stalls tables ws = (ws ≡ stalls) ⊎ (ws ≡ stalls ++ (tables ++ rel
 stalls_written : (stalls tables : List RegPair) (r : List LoggedEvent) (p : IsPlanRecord stalls tables r) → writes_in p.first ≡ stalls
 stalls_written stalls tables r p = ap writes p.stalling ∙ writes_by 1 stalls
 
-record_writes : (stalls tables : List RegPair) (r : List LoggedEvent) (p : IsPlanRecord stalls tables r) → writes_in r ≡ stalls ++ writes_in p.rest
+record_writes : (stalls tables : List RegPair) (r : List LoggedEvent) (p : IsPlanRecord stalls tables r)
+    → writes_in r ≡ stalls ++ writes_in p.rest
 record_writes stalls tables r p =
     ap writes_in p.is
     ∙ (writes_both p.first (p.reads ++ p.rest)
     ∙ (ap (λ ws. ws ++ writes_in (p.reads ++ p.rest)) (stalls_written stalls tables r p)
     ∙ ap (λ ws. stalls ++ ws) (writes_both p.reads p.rest ∙ ap (λ ws. ws ++ writes_in p.rest) (reads_nothing p.reads p.events))))
 
-pub plan_writes : (stalls tables : List RegPair) (r : List LoggedEvent) → IsPlanRecord stalls tables r → IsUpdate stalls tables (writes_in r)
+pub plan_writes : (stalls tables : List RegPair) (r : List LoggedEvent) → IsPlanRecord stalls tables r
+    → IsUpdate stalls tables (writes_in r)
 plan_writes stalls tables r p = ending p.rest p.ends (record_writes stalls tables r p)
   where
-    ending : {A B : Type 0} (rest : List LoggedEvent) → (A × (rest ≡ [])) ⊎ (B × (map event_of rest ≡ map (write_by 1) (tables ++ release_write ∷ []))) → writes_in r ≡ stalls ++ writes_in rest → IsUpdate stalls tables (writes_in r)
+    ending : {A B : Type 0} (rest : List LoggedEvent)
+        → (A × (rest ≡ [])) ⊎ (B × (map event_of rest ≡ map (write_by 1) (tables ++ release_write ∷ [])))
+        → writes_in r ≡ stalls ++ writes_in rest → IsUpdate stalls tables (writes_in r)
     ending rest (inl e) w = inl (w ∙ (ap (λ ys. stalls ++ writes_in ys) e.1 ∙ append_nothing stalls))
     ending rest (inr e) w = inr (w ∙ ap (λ es. stalls ++ es) (ap writes e.1 ∙ writes_by 1 (tables ++ release_write ∷ [])))
 
@@ -135,7 +147,8 @@ NotDrained x = IsDrainRead x → Misses x
 abbrev Ends : List LoggedEvent → List LoggedEvent → Type 0
 Ends reads rest = (rest ≡ []) ⊎ HasHit reads
 
-only_reads : (reads rest q z : List LoggedEvent) → q ++ z ≡ reads ++ rest → AllByRecursion IsDrainRead reads → Ends reads rest → AllByRecursion NotDrained q → writes_in q ≡ []
+only_reads : (reads rest q z : List LoggedEvent) → q ++ z ≡ reads ++ rest → AllByRecursion IsDrainRead reads → Ends reads rest
+    → AllByRecursion NotDrained q → writes_in q ≡ []
 only_reads reads rest [] z e r ends n = refl
 only_reads [] rest (x ∷ q) z e r (inl none) n = absurd (let m : x ∷ (q ++ z) ≡ [] = e ∙ none in cc)
 only_reads [] rest (x ∷ q) z e r (inr hit) n = absurd hit
@@ -152,14 +165,16 @@ only_reads (y ∷ reads) rest (x ∷ q) z e r ends n =
     ending m (inr (inr hit)) = inr hit
 
 -- A part in which no read is drained writes some of the stalls, and nothing else.
-pub before_reading : (stalls tables : List RegPair) (r q z : List LoggedEvent) → IsPlanRecord stalls tables r → q ++ z ≡ r → AllByRecursion NotDrained q → (ws : List RegPair) × (stalls ≡ writes_in q ++ ws)
+pub before_reading : (stalls tables : List RegPair) (r q z : List LoggedEvent) → IsPlanRecord stalls tables r → q ++ z ≡ r
+    → AllByRecursion NotDrained q → (ws : List RegPair) × (stalls ≡ writes_in q ++ ws)
 before_reading stalls tables r q z p e n = by (two_cuts q z p.first (p.reads ++ p.rest) (e ∙ p.is))
   where
     ending : PlanEnds tables p.reads p.rest → Ends p.reads p.rest
     ending (inl e) = inl e.1
     ending (inr e) = inr e.0
 
-    by : CutInFirst q z p.first (p.reads ++ p.rest) ⊎ CutInSecond q z p.first (p.reads ++ p.rest) → (ws : List RegPair) × (stalls ≡ writes_in q ++ ws)
+    by : CutInFirst q z p.first (p.reads ++ p.rest) ⊎ CutInSecond q z p.first (p.reads ++ p.rest)
+        → (ws : List RegPair) × (stalls ≡ writes_in q ++ ws)
     by (inl c) = (writes_in c.more, sym (stalls_written stalls tables r p) ∙ (ap writes_in c.first ∙ writes_both q c.more))
     by (inr c) =
         let parts = all_parts NotDrained p.first c.more (subst (AllByRecursion NotDrained) c.taken n) in
@@ -173,7 +188,8 @@ missed : (reads q z : List LoggedEvent) (x : LoggedEvent) → reads ≡ q ++ x �
 missed reads q z x e m = (all_parts Misses q (x ∷ z) (subst (AllByRecursion Misses) e m)).1.0
 
 -- events of writes
-pub loud : (c : ℕ) (ws : List RegPair) (xs : List LoggedEvent) → map event_of xs ≡ map (write_by c) ws → AllByRecursion (λ x. IsNoLoggedWrite x → ⊥) xs
+pub loud : (c : ℕ) (ws : List RegPair) (xs : List LoggedEvent) → map event_of xs ≡ map (write_by c) ws
+    → AllByRecursion (λ x. IsNoLoggedWrite x → ⊥) xs
 loud c ws [] h = tt
 loud c [] (x ∷ xs) h = absurd (let n : x.event ∷ map event_of xs ≡ [] = h in cc)
 loud c (w ∷ ws) (x ∷ xs) h =
@@ -235,7 +251,8 @@ module _ (stalls tables : List RegPair) (r q z : List LoggedEvent) (x : LoggedEv
         before = ap writes_in c.part ∙ (writes_both p.first c.early ∙ (ap (λ ws. writes_in p.first ++ ws) silent ∙ (append_nothing (writes_in p.first) ∙ stalls_written stalls tables r p)));
       }
     where
-      ending : PlanEnds tables p.reads p.rest → writes_in r ≡ stalls ++ writes_in p.rest → writes_in r ≡ stalls ++ (tables ++ release_write ∷ [])
+      ending : PlanEnds tables p.reads p.rest → writes_in r ≡ stalls ++ writes_in p.rest
+          → writes_in r ≡ stalls ++ (tables ++ release_write ∷ [])
       ending (inl m) w = let c = among_reads in absurd (let n : false ≡ true = sym (missed p.reads c.early c.late x c.reads m.0) ∙ hit in cc)
       ending (inr m) w = w ∙ ap (λ es. stalls ++ es) (ap writes m.1 ∙ writes_by 1 (tables ++ release_write ∷ []))
 
@@ -250,17 +267,23 @@ value_kept n i [] h = refl
 value_kept n i (w ∷ ws) h = ap (λ b. value_from (cond b w.value n) ws i) (ne_eqb w.index i h.0) ∙ value_kept n i ws h.1
 
 -- of neither MDSTALL nor RRIDSCP
+abbrev pub StallsNobody : RegPair → Type 0
+StallsNobody w = (w.index ≡ index_of Mdstall → ⊥) × (w.index ≡ index_of Rridscp → ⊥)
+
 abbrev pub StallNobody : List RegPair → Type 0
-StallNobody ws = AllByRecursion (λ (w : RegPair). (w.index ≡ 12 → ⊥) × (w.index ≡ 14 → ⊥)) ws
+StallNobody ws = AllByRecursion StallsNobody ws
 
 pub flag_kept : (s : ℕ) (b : Bool) (ws : List RegPair) → StallNobody ws → flag_from s b ws ≡ b
 flag_kept s b [] h = refl
 flag_kept s b (w ∷ ws) h =
-    ap (λ c. flag_from s c ws) (cond-false (w.index == 12) (w.value == 1) _ (ne_eqb w.index 12 h.0.0) ∙ cond-false (w.index == 14) _ b (ne_eqb w.index 14 h.0.1))
+    ap (λ c. flag_from s c ws)
+    (cond-false (w.index == index_of Mdstall) (w.value == 1) _ (ne_eqb w.index (index_of Mdstall) h.0.0)
+    ∙ cond-false (w.index == index_of Rridscp) _ b (ne_eqb w.index (index_of Rridscp) h.0.1))
     ∙ flag_kept s b ws h.1
 
 -- A part without the last write is one of the tables' writes.
-pub tables_part : (tables a b : List RegPair) → a ++ b ≡ tables ++ release_write ∷ [] → (b ≡ [] → ⊥) → (c : List RegPair) × (tables ≡ a ++ c)
+pub tables_part : (tables a b : List RegPair) → a ++ b ≡ tables ++ release_write ∷ [] → (b ≡ [] → ⊥)
+    → (c : List RegPair) × (tables ≡ a ++ c)
 tables_part tables a b e ne = by (two_cuts a b tables (release_write ∷ []) e)
   where
     last : (more : List RegPair) → more ++ b ≡ release_write ∷ [] → a ≡ tables ++ more → (c : List RegPair) × (tables ≡ a ++ c)

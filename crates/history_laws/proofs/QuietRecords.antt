@@ -66,7 +66,8 @@ no_writes caller (c ∷ cs) q = (no_write c q.0, no_writes caller cs q.1)
     no_write (Write unit index value) q = q
     no_write _ q = tt
 
-pub quiet_record : (caller : ℕ) (cs : List Command) → AllByRecursion IsQuiet cs → (slots : List (Option OpenSlot)) (xs : List LoggedEvent) → IfSome (end_of_commands caller cs slots xs) (λ e. HaveNoWrites xs)
+pub quiet_record : (caller : ℕ) (cs : List Command) → AllByRecursion IsQuiet cs → (slots : List (Option OpenSlot)) (xs : List LoggedEvent)
+    → IfSome (end_of_commands caller cs slots xs) (λ e. HaveNoWrites xs)
 quiet_record caller cs q slots xs = by (end_of_commands caller cs slots xs) (whole_record IsNoWriteEvent Spares quiet_goes_on caller cs (no_writes caller cs q) slots xs)
   where
     by : (o : Option SectionEnd) → IfSome o (λ e. Spares (sum_by most_events cs) xs []) → IfSome o (λ e. HaveNoWrites xs)

@@ -4,10 +4,12 @@ use Rattle.std.specs.Prelude.{slice_get, option_map}
 use Rattle.std.specs.List.{AllByRecursion}
 use Rattle.std.proofs.lemmas.Bool.{cases_eq, cases_lt, eqb-true}
 use Rattle.std.proofs.lemmas.Bool.Decides.{nat_tests}
+use Rattle.event_words.specs.Registers.{index_of}
+use Rattle.event_words.specs.declared.register.Register.TheVariants.{Hwcfg0}
 use Rattle.event_words.specs.declared.shape.Shape.{Shape}
 use Rattle.event_words.specs.declared.access.Access.{Access}
 use Rattle.event_words.specs.declared.event.Event.{Event}
-use Rattle.event_words.specs.declared.event.Event.TheVariants.{RegWrite, RegRead, Judge}
+use Rattle.event_words.specs.declared.event.Event.TheVariants.{RegWrite, Judge}
 use Rattle.event_words.specs.declared.reply.Reply.TheVariants as replies
 use Rattle.event_words.specs.declared.reply.Verdict.{Verdict as AnyVerdict}
 use Rattle.event_words.specs.declared.record.LoggedEvent.{LoggedEvent}
@@ -37,10 +39,10 @@ use Rattle.history_laws.proofs.VerdictLaw.{law_verdicts}
 use Rattle.history_laws.proofs.VerdictKinds.{verdict_kind, unknown_kind}
 use Rattle.history_laws.proofs.QuietRecords.{IsNoWriteEvent, IsNoLoggedWrite}
 use Rattle.history_laws.proofs.Writes.{writes, append_nothing, nothing_after, same_first, take_map, all_before, all_from, all_parts, all_filter}
-use Rattle.history_laws.proofs.WriteRecords.{event_of, release_write}
+use Rattle.history_laws.proofs.WriteRecords.{event_of, release_write, drain_read}
 use Rattle.history_laws.proofs.UnitStands.{UnitStands, IsOnZero, flag_from, flag_append, unit_stands}
 use Rattle.history_laws.proofs.LiveLists.{IsLive, IsLoggedOnZero}
-use Rattle.history_laws.proofs.PlanParts.{writes_in, writes_both, of_none, own_before, own_from, own_cut, own_here, before_longer, write_there, IsUpdate, plan_writes, NotDrained, before_reading, at_reading, AreNot, value_kept, StallNobody, flag_kept, tables_part}
+use Rattle.history_laws.proofs.PlanParts.{writes_in, writes_both, of_none, own_before, own_from, own_cut, own_here, before_longer, write_there, IsUpdate, plan_writes, NotDrained, before_reading, at_reading, AreNot, value_kept, StallNobody, flag_kept, tables_part, StallsNobody}
 use Rattle.history_laws.proofs.UpdateWrites.{Rewrites, rewrites_stall_nobody, image_stalls_nobody, update_not_enable, tame_next, next_both, update_tame, with_stalls, with_update}
 use Rattle.history_laws.proofs.LastWrite.{release_there}
 use Rattle.history_laws.proofs.LivePlaces.{IsLogOf, least, idle_hits, none_drained, not_drained, past_boot, among_others, writes_upto, writes_whole}
@@ -119,8 +121,8 @@ module _ (old new : PolicyOf) (stalls tables : List RegPair) (h : History) (xs :
 
   reading : (b : ℕ) → ReadsDrained h b → AtReading b
   reading b d =
-      let x : LoggedEvent = record { place = b; event = RegRead 0 1 12; reply = replies.Value d.value } in
-      let there = u.log.there b (RegRead 0 1 12) (replies.Value d.value) d.event d.reply in
+      let x : LoggedEvent = record { place = b; event = drain_read; reply = replies.Value d.value } in
+      let there = u.log.there b drain_read (replies.Value d.value) d.event d.reply in
       let p = past b x there (past_boot (image_of old).writes stalls tables xs u.live b x there tt) in
       let here = sym (ap (λ ys. own_before p.number u.live.others ++ ys) (own_here p.number u.live.others x p.here refl)) ∙ own_cut p.number u.live.others in
       let r = at_reading stalls tables (events_by 1 u.live.others) (own_before p.number u.live.others) (own_from (suc p.number) u.live.others) x u.live.own here refl (idle_hits d.value d.idle) in
@@ -137,12 +139,14 @@ module _ (old new : PolicyOf) (stalls tables : List RegPair) (h : History) (xs :
   pub unknown_case : (m : ℕ) (a : Access) → (a.rrid < old.shape.rrids → ⊥) → kind_at m a ≡ 6
   unknown_case m a strange =
       let c = (stands m).registers in
-      let part = (all_parts (λ (w : RegPair). w.index ≡ 2 → ⊥) (done m) (to_do m) (subst (AreNot 2) (sym (cut m)) (update_not_enable old.shape stalls tables whole u.stalling u.rewrites.each update))).0 in
-      let one : value_of ((image_of old).writes ++ done m) 2 ≡ 1 = value_append 0 (image_of old).writes (done m) 2 ∙ (value_kept _ 2 (done m) part ∙ image_enables old) in
+      let part = (all_parts (λ (w : RegPair). w.index ≡ index_of Hwcfg0 → ⊥) (done m) (to_do m) (subst (AreNot (index_of Hwcfg0)) (sym (cut m)) (update_not_enable old.shape stalls tables whole u.stalling u.rewrites.each update))).0 in
+      let one : value_of ((image_of old).writes ++ done m) (index_of Hwcfg0) ≡ 1 =
+      value_append 0 (image_of old).writes (done m) (index_of Hwcfg0) ∙ (value_kept _ (index_of Hwcfg0) (done m) part ∙ image_enables old) in
       let past : ltb a.rrid old.shape.rrids ≡ false = ⊎_elim (λ (l : a.rrid < old.shape.rrids). absurd (strange l)) (λ (l : old.shape.rrids ≤ a.rrid). search (nat_tests, arith)) (cases_lt a.rrid old.shape.rrids) in
       unknown_kind (unit (length u.live.boot + m)).registers a (c.enabled ∙ ap (λ n. n == 1) one) (known m a.rrid ∙ past)
 
-  pub before_case : (m : ℕ) (a : Access) → IsValidAccess a → ((b : ℕ) → IsDrainedReading h b → length u.live.boot + m < b) → kind_at m a ≡ policy_decision old a
+  pub before_case : (m : ℕ) (a : Access) → IsValidAccess a → ((b : ℕ) → IsDrainedReading h b → length u.live.boot + m < b)
+      → kind_at m a ≡ policy_decision old a
   before_case m a valid later =
       let none = none_drained h (length u.live.boot + m) later in
       let each : AllByRecursion NotDrained (take m u.live.others) = all_before NotDrained u.live.others m
@@ -167,7 +171,8 @@ module _ (old new : PolicyOf) (stalls tables : List RegPair) (h : History) (xs :
           absurd (omega arith)
       quiet k _ q l t = tt
 
-  pub after_case : (m r : ℕ) (a : Access) → IsValidAccess a → IsRelease h r → r < length u.live.boot + m → kind_at m a ≡ policy_decision new a
+  pub after_case : (m r : ℕ) (a : Access) → IsValidAccess a → IsRelease h r → r < length u.live.boot + m
+      → kind_at m a ≡ policy_decision new a
   after_case m r a valid rel after =
       let at = reading rel.place rel.reading.drained in
       let all : done m ≡ stalls ++ (tables ++ release_write ∷ []) = sym (append_nothing (done m)) ∙ (ap (λ ws. done m ++ ws) (sym (rest_quiet m r rel after)) ∙ (cut m ∙ at.all)) in
@@ -179,7 +184,8 @@ module _ (old new : PolicyOf) (stalls tables : List RegPair) (h : History) (xs :
   -- ---- from the drained reading up to the release
 
   -- the writes are the stalls and a part of the tables' writes
-  tables_done : (b n : ℕ) → (at : AtReading b) → at.number ≤ n → (to_do n ≡ [] → ⊥) → (part rest : List RegPair) × (done n ≡ stalls ++ part) × (tables ≡ part ++ rest)
+  tables_done : (b n : ℕ) → (at : AtReading b) → at.number ≤ n → (to_do n ≡ [] → ⊥)
+      → (part rest : List RegPair) × (done n ≡ stalls ++ part) × (tables ≡ part ++ rest)
   tables_done b n at from more =
       let longer = before_longer at.number n u.live.others from in
       let part = writes_in longer.0 in
@@ -190,13 +196,14 @@ module _ (old new : PolicyOf) (stalls tables : List RegPair) (h : History) (xs :
       (part, rest.0, is, rest.1)
 
   -- so each requester that the stalls leave stalled is stalled
-  stalled_at : (b r k s : ℕ) → IsDrainedReading h b → IsRelease h r → b ≤ k → k ≤ r → s < old.shape.rrids → flag_from s false stalls ≡ true → is_flagged (state_at h k 0) s ≡ true
+  stalled_at : (b r k s : ℕ) → IsDrainedReading h b → IsRelease h r → b ≤ k → k ≤ r → s < old.shape.rrids → flag_from s false stalls ≡ true
+      → is_flagged (state_at h k 0) s ≡ true
   stalled_at b r k s read rel l m known stalled =
       let at = reading b read.drained in
       let n : ℕ = k - length u.live.boot in
       let is : k ≡ length u.live.boot + n = let e = at.is in omega arith in
       let t = tables_done b n at (let e = at.is in omega arith) (more n (omega arith)) in
-      let quiet = all_parts (λ (w : RegPair). (w.index ≡ 12 → ⊥) × (w.index ≡ 14 → ⊥)) t.0 t.1 (subst StallNobody t.3 (rewrites_stall_nobody old.shape tables u.rewrites.each)) in
+      let quiet = all_parts StallsNobody t.0 t.1 (subst StallNobody t.3 (rewrites_stall_nobody old.shape tables u.rewrites.each)) in
       let on : flag_from s false ((image_of old).writes ++ done n) ≡ true =
       flag_append s false (image_of old).writes (done n)
       ∙ (ap (λ c. flag_from s c (done n)) (flag_kept s false (image_of old).writes (image_stalls_nobody old u.good_old u.fits_old))
@@ -232,7 +239,8 @@ module _ (old new : PolicyOf) (stalls tables : List RegPair) (h : History) (xs :
           absurd (none k (record { unit = unit; index = index; value = value; event = q ∙ ap (λ c. Some (RegWrite unit c index value)) one }))
       quiet k _ q t = tt
 
-  pub sides : (p caller q : ℕ) → event_at h p ≡ Some (Judge 0 caller q) → ((b r : ℕ) → IsDrainedReading h b → IsRelease h r → b < p → p < r → ⊥) → IsBeforeReading h p ⊎ IsAfterRelease h p
+  pub sides : (p caller q : ℕ) → event_at h p ≡ Some (Judge 0 caller q)
+      → ((b r : ℕ) → IsDrainedReading h b → IsRelease h r → b < p → p < r → ⊥) → IsBeforeReading h p ⊎ IsAfterRelease h p
   sides p caller q event between = by (least h p)
     where
       at_judgement : (k : ℕ) (e : Event) → event_at h k ≡ Some e → p ≡ k → e ≡ Judge 0 caller q
@@ -242,7 +250,7 @@ module _ (old new : PolicyOf) (stalls tables : List RegPair) (h : History) (xs :
       by (inr none) = inl (λ b read. ⊎_elim
           (λ (l : b < p). absurd (none b l read.drained))
           (λ (l : p ≤ b). ⊎_elim
-          (λ (same : p ≡ b). let n : RegRead 0 1 12 ≡ Judge 0 caller q = at_judgement b (RegRead 0 1 12) read.drained.event same in absurd (cc))
+          (λ (same : p ≡ b). let n : drain_read ≡ Judge 0 caller q = at_judgement b drain_read read.drained.event same in absurd (cc))
           (λ (ne : p ≡ b → ⊥). ⊎_elim (λ (m : p < b). m) (λ (m : b ≤ p). absurd (ne (omega arith))) (cases_lt p b))
           (cases_eq p b))
           (cases_lt b p))
@@ -270,7 +278,8 @@ module _ (old new : PolicyOf) (stalls tables : List RegPair) (h : History) (xs :
     pub is : p ≡ length u.live.boot + number
     pub kind : kind_of_verdict verdict ≡ kind_at number access
 
-  pub judged : (p caller q : ℕ) (verdict : AnyVerdict) → event_at h p ≡ Some (Judge 0 caller q) → reply_at h p ≡ Some (replies.Verdict verdict) → IsJudged p caller q verdict
+  pub judged : (p caller q : ℕ) (verdict : AnyVerdict) → event_at h p ≡ Some (Judge 0 caller q)
+      → reply_at h p ≡ Some (replies.Verdict verdict) → IsJudged p caller q verdict
   judged p caller q verdict event reply =
       let d = law_verdicts h 0 caller q p verdict event reply in
       let there = shape_there h 0 p d.state d.here in
@@ -291,7 +300,9 @@ module _ (old new : PolicyOf) (stalls tables : List RegPair) (h : History) (xs :
       }
 
   -- None on a requester that the stalls leave stalled stands between the drained reading and the release.
-  pub none_between : (p caller q : ℕ) (verdict : AnyVerdict) → event_at h p ≡ Some (Judge 0 caller q) → reply_at h p ≡ Some (replies.Verdict verdict) → (j : IsJudged p caller q verdict) → j.access.rrid < old.shape.rrids → flag_from j.access.rrid false stalls ≡ true
+  pub none_between : (p caller q : ℕ) (verdict : AnyVerdict) → event_at h p ≡ Some (Judge 0 caller q)
+      → reply_at h p ≡ Some (replies.Verdict verdict) → (j : IsJudged p caller q verdict) → j.access.rrid < old.shape.rrids
+      → flag_from j.access.rrid false stalls ≡ true
       → (b r : ℕ) → IsDrainedReading h b → IsRelease h r → b < p → p < r → ⊥
   none_between p caller q verdict event reply j known stalled b r read rel l m =
       law_windows h 0 j.access.rrid b p

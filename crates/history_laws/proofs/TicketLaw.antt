@@ -29,7 +29,8 @@ own_places h u shape k =
     own_induction (λ k x. AllByRecursion (IsBelow k) x.submissions) h u shape tt (λ k x b. later_places k x.submissions b)
     (λ k x e q t b. items_step (IsBelow k) (IsBelow (suc k)) k x e (λ item l. omega arith) (λ item l. released_cases (IsBelow (suc k)) _ item (λ e. omega arith) (λ e. omega arith)) (λ unit caller a queued s stalled taken. omega arith) b) k
 
-taken_step : (p c : ℕ) (a : Access) (x : UnitState) → at p x.submissions ≡ [] → ((submit_step p x c a).1 ≡ replies.Passed) ⊎ ((submit_step p x c a).1 ≡ replies.Queued) → StandsOnce p c a (submit_step p x c a).0
+taken_step : (p c : ℕ) (a : Access) (x : UnitState) → at p x.submissions ≡ []
+    → ((submit_step p x c a).1 ≡ replies.Passed) ⊎ ((submit_step p x c a).1 ≡ replies.Queued) → StandsOnce p c a (submit_step p x c a).0
 taken_step p c a x h =
     submit_cases (λ r. (r.1 ≡ replies.Passed) ⊎ (r.1 ≡ replies.Queued) → StandsOnce p c a r.0) p x c a
     (λ e q. (false, at_own p x.submissions _ refl h))
@@ -53,7 +54,8 @@ Either h u c p k a x =
     (StandsOnce p c a x × (IsClosedBefore h u c p k → ⊥)) ⊎ ((at p x.submissions ≡ []) × IsClosedBefore h u c p k)
 
 -- An event that isn't a verdict on it closes nothing.
-not_closed : (h : History) (u c p k : ℕ) → (IsClosedBefore h u c p k → ⊥) → ((v : Verdict) → event_at h k ≡ Some (Judge u c p) → reply_at h k ≡ Some (replies.Verdict v) → ⊥) → IsClosedBefore h u c p (suc k) → ⊥
+not_closed : (h : History) (u c p k : ℕ) → (IsClosedBefore h u c p k → ⊥)
+    → ((v : Verdict) → event_at h k ≡ Some (Judge u c p) → reply_at h k ≡ Some (replies.Verdict v) → ⊥) → IsClosedBefore h u c p (suc k) → ⊥
 not_closed h u c p k n m closed = ⊎_elim
     (λ (e : closed.place ≡ k). m closed.verdict (subst (λ j. event_at h j ≡ Some (Judge u c p)) e closed.own.event) (subst (λ j. reply_at h j ≡ Some (replies.Verdict closed.verdict)) e closed.reply))
     (λ (ne : closed.place ≡ k → ⊥). n (record { place = closed.place; verdict = closed.verdict; own = closed.own; reply = closed.reply; before = omega (arith, closed.before, ne) }))
@@ -71,7 +73,8 @@ taken_once h k e f p q = let n : Some e ≡ Some f = sym p ∙ q in cc
 pub reply_once : (h : History) (k : ℕ) (e f : Reply) → reply_at h k ≡ Some e → reply_at h k ≡ Some f → e ≡ f
 reply_once h k e f p q = let n : Some e ≡ Some f = sym p ∙ q in cc
 
-either_first : (h : History) (u c p : ℕ) (a : Access) (shape : Shape) → slice_get h.shapes u ≡ Some shape → IsTaken h u c p a → Either h u c p (suc p) a (own_state h u shape (suc p))
+either_first : (h : History) (u c p : ℕ) (a : Access) (shape : Shape) → slice_get h.shapes u ≡ Some shape → IsTaken h u c p a
+    → Either h u c p (suc p) a (own_state h u shape (suc p))
 either_first h u c p a shape q taken =
     let x = own_state h u shape p in
     let none = at_none p x.submissions (own_places h u shape p) in
@@ -84,7 +87,8 @@ either_first h u c p a shape q taken =
       λ closed. absurd (let l = closed.before in let m = closed.own.later in omega arith),
     )
 
-either_step : (h : History) (u c p k : ℕ) (a : Access) (shape : Shape) → slice_get h.shapes u ≡ Some shape → p < k → Either h u c p k a (own_state h u shape k) → Either h u c p (suc k) a (own_state h u shape (suc k))
+either_step : (h : History) (u c p k : ℕ) (a : Access) (shape : Shape) → slice_get h.shapes u ≡ Some shape → p < k
+    → Either h u c p k a (own_state h u shape k) → Either h u c p (suc k) a (own_state h u shape (suc k))
 either_step h u c p k a shape q l now =
     let x = own_state h u shape k in
     own_next (Either h u c p (suc k) a) k u x (taken_at h k)
@@ -115,7 +119,8 @@ either_step h u c p k a shape q l now =
     (ticket_step p c u k a x e l t s.0))
     (λ (g : (at p x.submissions ≡ []) × IsClosedBefore h u c p k). inr ((gone_step p c u k x e l g.0).gone, closed_on h u c p k g.1)) now)
 
-either_at : (h : History) (u c p : ℕ) (a : Access) (shape : Shape) → slice_get h.shapes u ≡ Some shape → IsTaken h u c p a → (k : ℕ) → p < k → Either h u c p k a (own_state h u shape k)
+either_at : (h : History) (u c p : ℕ) (a : Access) (shape : Shape) → slice_get h.shapes u ≡ Some shape → IsTaken h u c p a → (k : ℕ)
+    → p < k → Either h u c p k a (own_state h u shape k)
 either_at h u c p a shape q taken zero l = absurd (omega arith)
 either_at h u c p a shape q taken (suc k) l = ⊎_elim
     (λ (e : p ≡ k). subst (λ j. Either h u c p (suc j) a (own_state h u shape (suc j))) e (either_first h u c p a shape q taken))
@@ -178,7 +183,8 @@ not_before h u c p n k closing l closed =
     absurd {A = ⊥} (omega (arith, closed.before))
 
 -- Where a verdict was given there is a first one.
-first_closing : (h : History) (u c p : ℕ) (a : Access) → IsTaken h u c p a → (k : ℕ) → IsClosedBefore h u c p k → (n : ℕ) × IsClosing h u c p n
+first_closing : (h : History) (u c p : ℕ) (a : Access) → IsTaken h u c p a → (k : ℕ) → IsClosedBefore h u c p k
+    → (n : ℕ) × IsClosing h u c p n
 first_closing h u c p a taken zero closed = absurd (omega (arith, closed.before))
 first_closing h u c p a taken (suc k) closed = ⊎_elim
     (λ (earlier : p < k). ⊎_elim

@@ -25,7 +25,8 @@ abbrev pub IsJudged : Reply → Type 0
 IsJudged r = (r ≡ replies.Held) ⊎ ((v : Verdict) × (r ≡ replies.Verdict v))
 
 held_unless : (h : History) (u c p k : ℕ) (a : Access) (r : Reply) → IsTaken h u c p a → IsOwnJudgement h u c p k
-    → ((j : ℕ) → j < k → IsOwnVerdict h u c p j → ⊥) → reply_at h k ≡ Some r → ((v : Verdict) → r ≡ replies.Verdict v → ⊥) → r ≡ replies.Held
+    → ((j : ℕ) → j < k → IsOwnVerdict h u c p j → ⊥) → reply_at h k ≡ Some r → ((v : Verdict) → r ≡ replies.Verdict v → ⊥)
+    → r ≡ replies.Held
 held_unless h u c p k a r taken own fresh is other =
     let held = (ticket_at h u c p k a taken own.later).held own (λ closed. ⊎_elim
     (λ (e : closed.place ≡ k). other closed.verdict (reply_once h k _ _ is (subst (λ j. reply_at h j ≡ Some (replies.Verdict closed.verdict)) e closed.reply)))
@@ -54,14 +55,16 @@ get_last (v ∷ ws) w = get_last ws w
 some_word : (words : List ℕ) (k : ℕ) → k < length words → (w : ℕ) × (slice_get words k ≡ Some w)
 some_word words k l = (_, slice_get-get_or words k 0 l)
 
-pub same_event_before : (shapes : List Shape) (words more : List ℕ) → AllByRecursion IsEventWord words → AllByRecursion IsEventWord (words ++ more) → (k : ℕ) → k < length words
+pub same_event_before : (shapes : List Shape) (words more : List ℕ) → AllByRecursion IsEventWord words
+    → AllByRecursion IsEventWord (words ++ more) → (k : ℕ) → k < length words
     → event_at (history_of shapes (words ++ more)) k ≡ event_at (history_of shapes words) k
 same_event_before shapes words more all longer k l =
     let w = some_word words k l in
     let e = word_at_place words all k w.0 w.1 in
     event_at_words shapes (words ++ more) longer k w.0 e.event (get_left words more k w.0 w.1) e.back ∙ sym (event_at_words shapes words all k w.0 e.event w.1 e.back)
 
-pub same_reply_before : (shapes : List Shape) (words more : List ℕ) → AllByRecursion IsEventWord words → AllByRecursion IsEventWord (words ++ more) → (k : ℕ) → k < length words
+pub same_reply_before : (shapes : List Shape) (words more : List ℕ) → AllByRecursion IsEventWord words
+    → AllByRecursion IsEventWord (words ++ more) → (k : ℕ) → k < length words
     → reply_at (history_of shapes (words ++ more)) k ≡ reply_at (history_of shapes words) k
 same_reply_before shapes words more all longer k l =
     let w = some_word words k l in

@@ -34,7 +34,8 @@ at_released : (p : ℕ) (flags : List Bool) (xs : List Submission) → at p (map
 at_released p flags [] = refl
 at_released p flags (x ∷ xs) = released_cases (λ y. released_item flags x ≡ y → at p (y ∷ map (released_item flags) xs) ≡ map (released_item flags) (at p (x ∷ xs))) flags x (λ e. place_stays (at_released p flags xs) x refl) (λ e. place_stays (at_released p flags xs) (record x { queued = false }) refl) refl
   where
-    place_stays : at p (map (released_item flags) xs) ≡ map (released_item flags) (at p xs) → (y : Submission) → y.place ≡ x.place → released_item flags x ≡ y → at p (y ∷ map (released_item flags) xs) ≡ map (released_item flags) (at p (x ∷ xs))
+    place_stays : at p (map (released_item flags) xs) ≡ map (released_item flags) (at p xs) → (y : Submission) → y.place ≡ x.place
+        → released_item flags x ≡ y → at p (y ∷ map (released_item flags) xs) ≡ map (released_item flags) (at p (x ∷ xs))
     place_stays rest y same is =
         ap (λ n. cond (eqb n p) (y ∷ at p (map (released_item flags) xs)) (at p (map (released_item flags) xs))) same
         ∙ elim (eqb x.place p) as (λ b. cond b (y ∷ at p (map (released_item flags) xs)) (at p (map (released_item flags) xs)) ≡ map (released_item flags) (cond b (x ∷ at p xs) (at p xs))) [
@@ -64,7 +65,8 @@ none_found p caller (x ∷ xs) h =
     (λ t e q. absurd (let n : (x ∷ at p xs) ≡ [] = e in cc))
     (λ t e q. cond-false (is_item p caller x) (Some x) (find (is_item p caller) xs) (and_left (eqb x.place p) (eqb x.caller caller) t) ∙ none_found p caller xs e) h refl
 
-other_caller : (p caller : ℕ) (xs : List Submission) (y : Submission) → at p xs ≡ y ∷ [] → (y.caller ≡ caller → ⊥) → find (is_item p caller) xs ≡ None
+other_caller : (p caller : ℕ) (xs : List Submission) (y : Submission) → at p xs ≡ y ∷ [] → (y.caller ≡ caller → ⊥)
+    → find (is_item p caller) xs ≡ None
 other_caller p caller [] y h ne = refl
 other_caller p caller (x ∷ xs) y h ne =
     cond_both (eqb x.place p) (x ∷ at p xs) (at p xs) (λ ys. ys ≡ y ∷ [] → find (is_item p caller) (x ∷ xs) ≡ None)
@@ -73,7 +75,8 @@ other_caller p caller (x ∷ xs) y h ne =
     ∙ none_found p caller xs rest)
     (λ t e. cond-false (is_item p caller x) (Some x) (find (is_item p caller) xs) (and_left (eqb x.place p) (eqb x.caller caller) t) ∙ other_caller p caller xs y e ne) h
 
-own_caller : (p caller : ℕ) (xs : List Submission) (y : Submission) → at p xs ≡ y ∷ [] → y.caller ≡ caller → (find (is_item p caller) xs ≡ Some y) × (at p (without_item p caller xs) ≡ [])
+own_caller : (p caller : ℕ) (xs : List Submission) (y : Submission) → at p xs ≡ y ∷ [] → y.caller ≡ caller
+    → (find (is_item p caller) xs ≡ Some y) × (at p (without_item p caller xs) ≡ [])
 own_caller p caller [] y h c = absurd (let n : [] ≡ y ∷ [] = h in cc)
 own_caller p caller (x ∷ xs) y h c =
     cond_both (eqb x.place p) (x ∷ at p xs) (at p xs) (λ ys. ys ≡ y ∷ [] → (find (is_item p caller) (x ∷ xs) ≡ Some y) × (at p (without_item p caller (x ∷ xs)) ≡ []))
@@ -105,7 +108,8 @@ pub record Closes (p c u : ℕ) (a : Access) (e : Event) (r : UnitState × Reply
 abbrev Outcome : ℕ → ℕ → ℕ → Access → Event → UnitState × Reply → Type 0
 Outcome p c u a e r = Stays p c u a e r ⊎ Closes p c u a e r
 
-judged_elsewhere : (p c u : ℕ) (a : Access) (x : UnitState) (unit caller place : ℕ) → (place ≡ p → ⊥) → StandsOnce p c a x → Outcome p c u a (Judge unit caller place) (judge_step x place caller)
+judged_elsewhere : (p c u : ℕ) (a : Access) (x : UnitState) (unit caller place : ℕ) → (place ≡ p → ⊥) → StandsOnce p c a x
+    → Outcome p c u a (Judge unit caller place) (judge_step x place caller)
 judged_elsewhere p c u a x unit caller place ne h =
     let no = λ (r : Reply) (q : Judge unit caller place ≡ Judge u c p). absurd {A = r ≡ replies.Held} (ne cc) in
     judge_cases (Outcome p c u a (Judge unit caller place)) x place caller
@@ -114,7 +118,8 @@ judged_elsewhere p c u a x unit caller place ne h =
     (λ item e f v. inl (record { stands = (h.0, at_without p place caller x.submissions ne ∙ h.1); held = no _ }))
     (λ item e f d v. inl (record { stands = (h.0, at_without p place caller x.submissions ne ∙ h.1); held = no _ }))
 
-judged_by_other : (p c u : ℕ) (a : Access) (x : UnitState) (unit caller : ℕ) → (caller ≡ c → ⊥) → StandsOnce p c a x → Outcome p c u a (Judge unit caller p) (judge_step x p caller)
+judged_by_other : (p c u : ℕ) (a : Access) (x : UnitState) (unit caller : ℕ) → (caller ≡ c → ⊥) → StandsOnce p c a x
+    → Outcome p c u a (Judge unit caller p) (judge_step x p caller)
 judged_by_other p c u a x unit caller ne h =
     let none = other_caller p caller x.submissions _ h.1 (λ e. ne (sym e)) in
     let no = λ (r : Reply) (q : Judge unit caller p ≡ Judge u c p). absurd {A = r ≡ replies.Held} (ne cc) in
@@ -124,7 +129,8 @@ judged_by_other p c u a x unit caller ne h =
     (λ item e f v. absurd (let n : None ≡ Some item = sym none ∙ e in cc))
     (λ item e f d v. absurd (let n : None ≡ Some item = sym none ∙ e in cc))
 
-judged_own : (p c u : ℕ) (a : Access) (x : UnitState) (unit : ℕ) → unit ≡ u → StandsOnce p c a x → Outcome p c u a (Judge unit c p) (judge_step x p c)
+judged_own : (p c u : ℕ) (a : Access) (x : UnitState) (unit : ℕ) → unit ≡ u → StandsOnce p c a x
+    → Outcome p c u a (Judge unit c p) (judge_step x p c)
 judged_own p c u a x unit t h =
     let found = own_caller p c x.submissions _ h.1 refl in
     let event : Judge unit c p ≡ Judge u c p = cc in
@@ -134,7 +140,8 @@ judged_own p c u a x unit t h =
     (λ item e f v. inr (record { gone = found.1; event = event; verdict = v; reply = refl }))
     (λ item e f d v. inr (record { gone = found.1; event = event; verdict = v; reply = refl }))
 
-released_once : (p c : ℕ) (a : Access) (flags : List Bool) (xs : List Submission) (queued : Bool) → at p xs ≡ record { place = p; caller = c; access = a; queued = queued } ∷ []
+released_once : (p c : ℕ) (a : Access) (flags : List Bool) (xs : List Submission) (queued : Bool)
+    → at p xs ≡ record { place = p; caller = c; access = a; queued = queued } ∷ []
     → (now : Bool) × (at p (map (released_item flags) xs) ≡ record { place = p; caller = c; access = a; queued = now } ∷ [])
 released_once p c a flags xs queued h =
     let item : Submission = record { place = p; caller = c; access = a; queued = queued } in

@@ -59,7 +59,8 @@ unstalled_step k x e q c = record {
   items = items_step IsFree IsFree k x e (λ item f. f) (λ item f. released_cases IsFree _ item (λ t. f) (λ t. refl)) (λ unit caller a queued t stalled taken. sym stalled ∙ c.no_flag a.rrid) c.items;
 }
 
-unstalled_later : (h : History) (u : ℕ) (shape : Shape) (n m : ℕ) → AreNoWritesFrom h n → IsUnstalled (own_state h u shape n) → IsUnstalled (own_state h u shape (n + m))
+unstalled_later : (h : History) (u : ℕ) (shape : Shape) (n m : ℕ) → AreNoWritesFrom h n → IsUnstalled (own_state h u shape n)
+    → IsUnstalled (own_state h u shape (n + m))
 unstalled_later h u shape n zero q c = let z : n ≡ n + 0 = omega arith in subst (λ k. IsUnstalled (own_state h u shape k)) z c
 unstalled_later h u shape n (suc m) q c =
     let z : suc (n + m) ≡ n + suc m = omega arith in
@@ -97,7 +98,8 @@ module _ (shapes : List Shape) (boot : SectionOf) (lanes : List SectionOf) (word
   n = length g.legal.order.boot
 
   -- The unit before the first event of a lane.
-  pub state_booted : (u : ℕ) (shape : Shape) → slice_get shapes u ≡ Some shape → slice_get (units_after_boot shapes words) u ≡ Some (own_state h u shape n)
+  pub state_booted : (u : ℕ) (shape : Shape) → slice_get shapes u ≡ Some shape
+      → slice_get (units_after_boot shapes words) u ≡ Some (own_state h u shape n)
   state_booted u shape q = ap (λ us. slice_get us u) (sym (units_booted shapes (length lanes) words g.legal.events g.legal.order)) ∙ own_at h u n shape q
 
   unstalled_at : (u : ℕ) (shape : Shape) → slice_get shapes u ≡ Some shape → (k : ℕ) → n ≤ k → IsUnstalled (own_state h u shape k)
@@ -109,7 +111,8 @@ module _ (shapes : List Shape) (boot : SectionOf) (lanes : List SectionOf) (word
   after_boot : (k : ℕ) (e : Event) → event_at h k ≡ Some e → 1 ≤ caller_of e → n ≤ k
   after_boot k e q l = boot_before shapes (length lanes) words g.legal.events g.legal.order k e q l
 
-  pub passed_at : (u : ℕ) (shape : Shape) (c k : ℕ) (a : Access) → slice_get shapes u ≡ Some shape → 1 ≤ c → event_at h k ≡ Some (Submit u c a) → reply_at h k ≡ Some replies.Passed
+  pub passed_at : (u : ℕ) (shape : Shape) (c k : ℕ) (a : Access) → slice_get shapes u ≡ Some shape → 1 ≤ c
+      → event_at h k ≡ Some (Submit u c a) → reply_at h k ≡ Some replies.Passed
   passed_at u shape c k a q l event =
       let x = own_state h u shape k in
       let calm = unstalled_at u shape q k (after_boot k (Submit u c a) event l) in

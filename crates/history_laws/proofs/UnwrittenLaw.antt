@@ -15,8 +15,8 @@ use Rattle.event_words.specs.declared.reply.Decision.TheVariants as decisions
 use Rattle.event_words.specs.declared.reply.Denial.{Denial}
 use Rattle.event_words.specs.declared.reply.Verdict.TheVariants as verdicts
 use Rattle.event_words.specs.declared.record.LoggedEvent.{LoggedEvent}
-use Rattle.event_words.specs.declared.register.Register.TheVariants.{ErrCfg}
-use Rattle.event_words.specs.Registers.{Registers, has_bit}
+use Rattle.event_words.specs.declared.register.Register.TheVariants.{ErrCfg, ErrInfo, ErrReqaddr, ErrReqaddrh, ErrReqid}
+use Rattle.event_words.specs.Registers.{Registers, has_bit, index_of}
 use Rattle.event_words.specs.Guards.{reg}
 use Rattle.event_words.specs.Decisions.{decision}
 use Rattle.event_words.specs.Denials.{recorded}
@@ -53,8 +53,11 @@ recorded_differ : (r : Registers) (a : Access) (d : Denial) → DifferInRecord (
 recorded_differ r a d = record {
   shape = recorded_cases (λ s. s.shape ≡ r.shape) r a d (λ info addr addrh id. refl) refl;
   words = λ i out.
-      let apart : (j : ℕ) → 25 ≤ j → j ≤ 28 → i ≡ j → ⊥ = λ j l u e. ⊎_elim (λ (low : i < 25). absurd (omega arith)) (λ (high : 28 < i). absurd (omega arith)) out in
-      recorded_other r a d i (apart 25 (omega arith) (omega arith)) (apart 26 (omega arith) (omega arith)) (apart 27 (omega arith) (omega arith)) (apart 28 (omega arith) (omega arith));
+      let apart : (j : ℕ) → index_of ErrInfo ≤ j → j ≤ index_of ErrReqid → i ≡ j → ⊥ =
+      λ j l u e. ⊎_elim (λ (low : i < index_of ErrInfo). absurd (omega arith)) (λ (high : index_of ErrReqid < i). absurd (omega arith)) out in
+      recorded_other r a d i
+      (apart (index_of ErrInfo) (omega arith) (omega arith)) (apart (index_of ErrReqaddr) (omega arith) (omega arith))
+      (apart (index_of ErrReqaddrh) (omega arith) (omega arith)) (apart (index_of ErrReqid) (omega arith) (omega arith));
 }
 
 no_write_step : (k : ℕ) (x : UnitState) (e : Event) → IsNoWriteEvent e → DifferInRecord (unit_step k x e).0.registers x.registers
@@ -76,7 +79,8 @@ pub no_write_taken : (h : History) (n k : ℕ) (e : Event) → AreNoWritesFrom h
 no_write_taken h n k (RegWrite unit caller index value) q l at = q k (RegWrite unit caller index value) l (event_taken h k (RegWrite unit caller index value) refl at)
 no_write_taken h n k _ q l at = tt
 
-pub registers_later : (h : History) (u : ℕ) (shape : Shape) (n m : ℕ) → AreNoWritesFrom h n → DifferInRecord (own_state h u shape (n + m)).registers (own_state h u shape n).registers
+pub registers_later : (h : History) (u : ℕ) (shape : Shape) (n m : ℕ) → AreNoWritesFrom h n
+    → DifferInRecord (own_state h u shape (n + m)).registers (own_state h u shape n).registers
 registers_later h u shape n zero q =
     let z : n ≡ n + 0 = omega arith in
     subst (λ k. DifferInRecord (own_state h u shape k).registers (own_state h u shape n).registers) z (differ_not (own_state h u shape n).registers)
@@ -93,7 +97,7 @@ registers_later h u shape n (suc m) q =
 verdict_alike : (x y : UnitState) (a : Access) (d : Decision) → DifferInRecord y.registers x.registers → verdict_of y a d ≡ verdict_of x a d
 verdict_alike x y a decisions.Allowed q = ap (λ (h : Shape). verdicts.Allowed (unwrap_or h.transl a.rrid)) q.shape
 verdict_alike x y a (decisions.Denied kind entry mute_irq mute_err) q =
-    let cfg : reg y.registers ErrCfg ≡ reg x.registers ErrCfg = q.words 24 (inl (omega arith)) in
+    let cfg : reg y.registers ErrCfg ≡ reg x.registers ErrCfg = q.words (index_of ErrCfg) (inl (omega arith)) in
     ap (λ n. verdicts.Denied (let d : Denial = record { kind = kind; entry = entry; quiet = has_bit n 2 || mute_err; irq = has_bit n 1 && not mute_irq; kept = not (mute_irq && mute_err) } in d)) cfg
 
 pub decided_alike : (x y : UnitState) (a : Access) → DifferInRecord y.registers x.registers → decided y a ≡ decided x a
@@ -122,7 +126,8 @@ boot_words lanes words b =
     append_none (w ∷ ws) = ap (λ vs. w ∷ vs) (append_none ws)
 
 -- The units before the first event of a lane.
-pub units_booted : (shapes : List Shape) (lanes : ℕ) (words : List ℕ) → AllByRecursion IsEventWord words → (b : BootComesFirst lanes words) → units_at (history_of shapes words) (length b.boot) ≡ units_after_boot shapes words
+pub units_booted : (shapes : List Shape) (lanes : ℕ) (words : List ℕ) → AllByRecursion IsEventWord words → (b : BootComesFirst lanes words)
+    → units_at (history_of shapes words) (length b.boot) ≡ units_after_boot shapes words
 units_booted shapes lanes words all b =
     units_at_words shapes words all (length b.boot)
     ∙ ap (λ ws. units_after shapes (take (length b.boot) ws)) b.is
@@ -135,7 +140,8 @@ record HasBearer (words : List ℕ) (k : ℕ) (e : Event) : Type 0 where
   pub at : slice_get words k ≡ Some word
   pub caller : caller_of_word word ≡ caller_of e
 
-caller_at : (shapes : List Shape) (words : List ℕ) → AllByRecursion IsEventWord words → (k : ℕ) (e : Event) → event_at (history_of shapes words) k ≡ Some e → HasBearer words k e
+caller_at : (shapes : List Shape) (words : List ℕ) → AllByRecursion IsEventWord words → (k : ℕ) (e : Event)
+    → event_at (history_of shapes words) k ≡ Some e → HasBearer words k e
 caller_at shapes words all k e q =
     let l : k < length words = subst (λ n. k < n) (length_events words all) (slice_get_within _ k e q) in
     let w = get_or words k 0 in
@@ -145,7 +151,9 @@ caller_at shapes words all k e q =
     let is : has.event ≡ e = cc in
     record { word = w; at = at; caller = ap caller_of_word has.is ∙ caller_of_word-word_of has.event has.valid ∙ ap caller_of is }
 
-pub boot_before : (shapes : List Shape) (lanes : ℕ) (words : List ℕ) → AllByRecursion IsEventWord words → (b : BootComesFirst lanes words) (k : ℕ) (e : Event) → event_at (history_of shapes words) k ≡ Some e → 1 ≤ caller_of e → length b.boot ≤ k
+pub boot_before : (shapes : List Shape) (lanes : ℕ) (words : List ℕ) → AllByRecursion IsEventWord words
+    → (b : BootComesFirst lanes words) (k : ℕ) (e : Event) → event_at (history_of shapes words) k ≡ Some e → 1 ≤ caller_of e
+    → length b.boot ≤ k
 boot_before shapes lanes words all b k e q l = ⊎_elim
     (λ (low : k < length b.boot).
     let h = caller_at shapes words all k e q in
@@ -156,7 +164,9 @@ boot_before shapes lanes words all b k e q l = ⊎_elim
     (λ (high : length b.boot ≤ k). high)
     (cases_lt k (length b.boot))
 
-pub lane_after_boot : (shapes : List Shape) (lanes : ℕ) (words : List ℕ) → AllByRecursion IsEventWord words → (b : BootComesFirst lanes words) (k : ℕ) (e : Event) → event_at (history_of shapes words) k ≡ Some e → length b.boot ≤ k → (1 ≤ caller_of e) × (caller_of e ≤ lanes)
+pub lane_after_boot : (shapes : List Shape) (lanes : ℕ) (words : List ℕ) → AllByRecursion IsEventWord words
+    → (b : BootComesFirst lanes words) (k : ℕ) (e : Event) → event_at (history_of shapes words) k ≡ Some e → length b.boot ≤ k
+    → (1 ≤ caller_of e) × (caller_of e ≤ lanes)
 lane_after_boot shapes lanes words all b k e q l =
     let h = caller_at shapes words all k e q in
     let z : k ≡ length b.boot + (k - length b.boot) = omega arith in
@@ -165,7 +175,8 @@ lane_after_boot shapes lanes words all b k e q l =
     subst (λ n. (1 ≤ n) × (n ≤ lanes)) h.caller (all_get (IsOfLane lanes) b.others (k - length b.boot) h.word b.of_lanes at)
 
 -- Each event is of the boot section's caller, or of a lane's.
-pub caller_within : (shapes : List Shape) (lanes : ℕ) (words : List ℕ) → AllByRecursion IsEventWord words → BootComesFirst lanes words → (k : ℕ) (e : Event) → event_at (history_of shapes words) k ≡ Some e → caller_of e < lanes + 1
+pub caller_within : (shapes : List Shape) (lanes : ℕ) (words : List ℕ) → AllByRecursion IsEventWord words → BootComesFirst lanes words
+    → (k : ℕ) (e : Event) → event_at (history_of shapes words) k ≡ Some e → caller_of e < lanes + 1
 caller_within shapes lanes words all b k e q = ⊎_elim
     (λ (boot : caller_of e < 1). omega arith)
     (λ (some : 1 ≤ caller_of e). let c = lane_after_boot shapes lanes words all b k e q (boot_before shapes lanes words all b k e q some) in let u = c.1 in omega arith)
@@ -174,7 +185,8 @@ caller_within shapes lanes words all b k e q = ⊎_elim
 -- ---- lanes that write nothing
 
 -- No event after the boot section's writes a register.
-pub no_writes : (shapes : List Shape) (boot : SectionOf) (lanes : List SectionOf) (words : List ℕ) (legal : IsLegalHistory shapes boot lanes words) → AllByRecursion HasNoRegisterWrites lanes
+pub no_writes : (shapes : List Shape) (boot : SectionOf) (lanes : List SectionOf) (words : List ℕ)
+    → (legal : IsLegalHistory shapes boot lanes words) → AllByRecursion HasNoRegisterWrites lanes
     → AreNoWritesFrom (history_of shapes words) (length legal.order.boot)
 no_writes shapes boot lanes words legal q k e l at =
     let all = legal.events in

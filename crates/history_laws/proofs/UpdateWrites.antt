@@ -1,6 +1,8 @@
 -- What an update's writes leave: the old policy's values while requesters stall, and the new one's at the end.
-use Rattle.std.proofs.Common.{◌≡◌, ℕ, ◌<◌, inl, inr, None, List, [], ◌∷◌, ◌++◌, refl, sym, ap, subst, ◌∙◌, arith, append_assoc}
+use Rattle.std.proofs.Common.{◌≡◌, ℕ, ◌<◌, inl, inr, None, List, [], ◌∷◌, ◌++◌, refl, sym, ap, subst, ◌∙◌, arith, append_assoc, ◌+◌}
 use Rattle.std.specs.List.{AllByRecursion}
+use Rattle.event_words.specs.Registers.{index_of}
+use Rattle.event_words.specs.declared.register.Register.TheVariants.{Hwcfg0, Hwcfg2, Mdstall, Rridscp, Entrylck}
 use Rattle.event_words.specs.declared.shape.Shape.{Shape}
 use Rattle.policy_compiler.specs.declared.image.RegPair.{RegPair}
 use Rattle.policy_compiler.specs.Policies.{PolicyOf, IsPolicy}
@@ -10,7 +12,7 @@ use Rattle.policy_compiler.proofs.Standing.{value_from, value_of, value_append, 
 use Rattle.policy_compiler.proofs.Decisive.{SameValues, IsImageWrite, image_each}
 use Rattle.history_laws.proofs.Writes.{append_nothing, all_both}
 use Rattle.history_laws.proofs.WriteRecords.{release_write}
-use Rattle.history_laws.proofs.PlanParts.{IsUpdate, AreNot, value_kept, StallNobody}
+use Rattle.history_laws.proofs.PlanParts.{IsUpdate, AreNot, value_kept, StallNobody, StallsNobody}
 
 -- Writes that bring what the old ones left to what the new ones leave.
 pub record Rewrites (h : Shape) (old new tables : List RegPair) : Type 0 where
@@ -19,7 +21,9 @@ pub record Rewrites (h : Shape) (old new tables : List RegPair) : Type 0 where
 
 -- ---- which registers they are
 
-pub rewrites_not : (h : Shape) (ws : List RegPair) (i : ℕ) → i < 20 → (i ≡ 4 → ⊥) → AllByRecursion (IsRewrite h) ws → AreNot i ws
+-- none of a register up to the locks but HWCFG2
+pub rewrites_not : (h : Shape) (ws : List RegPair) (i : ℕ) → i < index_of Entrylck + 1 → (i ≡ index_of Hwcfg2 → ⊥)
+    → AllByRecursion (IsRewrite h) ws → AreNot i ws
 rewrites_not h [] i l ne all = tt
 rewrites_not h (w ∷ ws) i l ne all = (one all.0, rewrites_not h ws i l ne all.1)
   where
@@ -29,23 +33,23 @@ rewrites_not h (w ∷ ws) i l ne all = (one all.0, rewrites_not h ws i l ne all.
 
 pub rewrites_stall_nobody : (h : Shape) (ws : List RegPair) → AllByRecursion (IsRewrite h) ws → StallNobody ws
 rewrites_stall_nobody h [] all = tt
-rewrites_stall_nobody h (w ∷ ws) all = ((one 12 (omega arith) (λ e. absurd (omega arith)), one 14 (omega arith) (λ e. absurd (omega arith))), rewrites_stall_nobody h ws all.1)
+rewrites_stall_nobody h (w ∷ ws) all = ((one (index_of Mdstall) (omega arith) (λ e. absurd (omega arith)), one (index_of Rridscp) (omega arith) (λ e. absurd (omega arith))), rewrites_stall_nobody h ws all.1)
   where
-    one : (i : ℕ) → i < 20 → (i ≡ 4 → ⊥) → w.index ≡ i → ⊥
+    one : (i : ℕ) → i < index_of Entrylck + 1 → (i ≡ index_of Hwcfg2 → ⊥) → w.index ≡ i → ⊥
     one i l ne = (rewrites_not h (w ∷ []) i l ne (all.0, tt)).0
 
 image_writes_stall_nobody : (h : Shape) (ws : List RegPair) → AllByRecursion (IsImageWrite h) ws → StallNobody ws
 image_writes_stall_nobody h [] all = tt
 image_writes_stall_nobody h (w ∷ ws) all = (one all.0, image_writes_stall_nobody h ws all.1)
   where
-    one : IsImageWrite h w → (w.index ≡ 12 → ⊥) × (w.index ≡ 14 → ⊥)
+    one : IsImageWrite h w → StallsNobody w
     one (inl r) = (rewrites_stall_nobody h (w ∷ []) (r, tt)).0
     one (inr e) = (λ f. absurd (omega arith), λ f. absurd (omega arith))
 
 pub image_stalls_nobody : (p : PolicyOf) → IsPolicy p → need_refusal p ≡ None → StallNobody (image_of p).writes
 image_stalls_nobody p good fits = image_writes_stall_nobody p.shape (image_of p).writes (image_each p good fits)
 
-stalls_not : (ws : List RegPair) (i : ℕ) → (i ≡ 12 → ⊥) → (i ≡ 14 → ⊥) → AllByRecursion IsStall ws → AreNot i ws
+stalls_not : (ws : List RegPair) (i : ℕ) → (i ≡ index_of Mdstall → ⊥) → (i ≡ index_of Rridscp → ⊥) → AllByRecursion IsStall ws → AreNot i ws
 stalls_not [] i p q all = tt
 stalls_not (w ∷ ws) i p q all = (one all.0, stalls_not ws i p q all.1)
   where
@@ -53,18 +57,19 @@ stalls_not (w ∷ ws) i p q all = (one all.0, stalls_not ws i p q all.1)
     one (inl t) e = p (sym e ∙ t.0)
     one (inr t) e = q (sym e ∙ t)
 
-pub update_not_enable : (h : Shape) (stalls tables ws : List RegPair) → AllByRecursion IsStall stalls → AllByRecursion (IsRewrite h) tables → IsUpdate stalls tables ws → AreNot 2 ws
+pub update_not_enable : (h : Shape) (stalls tables ws : List RegPair) → AllByRecursion IsStall stalls → AllByRecursion (IsRewrite h) tables
+    → IsUpdate stalls tables ws → AreNot (index_of Hwcfg0) ws
 update_not_enable h stalls tables ws each all update = by update
   where
-    first : AreNot 2 stalls
-    first = stalls_not stalls 2 (λ e. absurd (omega arith)) (λ e. absurd (omega arith)) each
+    first : AreNot (index_of Hwcfg0) stalls
+    first = stalls_not stalls (index_of Hwcfg0) (λ e. absurd (omega arith)) (λ e. absurd (omega arith)) each
 
-    by : IsUpdate stalls tables ws → AreNot 2 ws
-    by (inl e) = subst (AreNot 2) (sym e) first
+    by : IsUpdate stalls tables ws → AreNot (index_of Hwcfg0) ws
+    by (inl e) = subst (AreNot (index_of Hwcfg0)) (sym e) first
     by (inr e) =
-        subst (AreNot 2) (sym e)
-        (all_both (λ (w : RegPair). w.index ≡ 2 → ⊥) stalls (tables ++ release_write ∷ []) first
-        (all_both (λ (w : RegPair). w.index ≡ 2 → ⊥) tables (release_write ∷ []) (rewrites_not h tables 2 (omega arith) (λ e. absurd (omega arith)) all) (λ e. absurd (omega arith), tt)))
+        subst (AreNot (index_of Hwcfg0)) (sym e)
+        (all_both (λ (w : RegPair). w.index ≡ index_of Hwcfg0 → ⊥) stalls (tables ++ release_write ∷ []) first
+        (all_both (λ (w : RegPair). w.index ≡ index_of Hwcfg0 → ⊥) tables (release_write ∷ []) (rewrites_not h tables (index_of Hwcfg0) (omega arith) (λ e. absurd (omega arith)) all) (λ e. absurd (omega arith), tt)))
 
 -- ---- what may come next
 
@@ -88,7 +93,8 @@ rewrites_tame h (w ∷ ws) all = (one all.0, rewrites_tame h ws all.1)
     one (inl t) = inl t
     one (inr p) = inr (inr p)
 
-pub update_tame : (h : Shape) (stalls tables ws : List RegPair) → AllByRecursion IsStall stalls → AllByRecursion (IsRewrite h) tables → IsUpdate stalls tables ws → AllByRecursion (IsTame h) ws
+pub update_tame : (h : Shape) (stalls tables ws : List RegPair) → AllByRecursion IsStall stalls → AllByRecursion (IsRewrite h) tables
+    → IsUpdate stalls tables ws → AllByRecursion (IsTame h) ws
 update_tame h stalls tables ws each all (inl e) = subst (AllByRecursion (IsTame h)) (sym e) (stalls_tame h stalls each)
 update_tame h stalls tables ws each all (inr e) =
     subst (AllByRecursion (IsTame h)) (sym e)
@@ -108,7 +114,8 @@ past_stalls old stalls ws each i p q =
     ∙ (value_append 0 (old ++ stalls) ws i
     ∙ (ap (λ n. value_from n ws i) (with_stalls old stalls each i p q) ∙ sym (value_append 0 old ws i)))
 
-pub with_update : (h : Shape) (old new stalls tables : List RegPair) → AllByRecursion IsStall stalls → Rewrites h old new tables → SameValues (old ++ (stalls ++ (tables ++ release_write ∷ []))) new
+pub with_update : (h : Shape) (old new stalls tables : List RegPair) → AllByRecursion IsStall stalls → Rewrites h old new tables
+    → SameValues (old ++ (stalls ++ (tables ++ release_write ∷ []))) new
 with_update h old new stalls tables each r i p q =
     past_stalls old stalls (tables ++ release_write ∷ []) each i p q
     ∙ (ap (λ xs. value_of xs i) (sym (append_assoc old tables (release_write ∷ [])))

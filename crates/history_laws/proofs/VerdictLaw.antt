@@ -22,7 +22,8 @@ use Rattle.history_laws.proofs.TicketSteps.{IsBelow}
 use Rattle.history_laws.proofs.TicketLaw.{own_places}
 
 -- The closed submission doesn't matter to the verdict.
-verdict_given : (x : UnitState) (place caller : ℕ) (a : Access) (d : Decision) → (verdict_step (closed place caller x) a d).1 ≡ replies.Verdict (verdict_of x a d)
+verdict_given : (x : UnitState) (place caller : ℕ) (a : Access) (d : Decision)
+    → (verdict_step (closed place caller x) a d).1 ≡ replies.Verdict (verdict_of x a d)
 verdict_given x place caller a decisions.Allowed = refl
 verdict_given x place caller a (decisions.Denied kind entry mute_irq mute_err) = refl
 
@@ -31,7 +32,8 @@ record IsJudged (x : UnitState) (v : Verdict) (o : Option Submission) : Type 0 w
   pub found : o ≡ Some item
   pub verdict_is : v ≡ decided x item.access
 
-judged_item : (x : UnitState) (place caller : ℕ) (v : Verdict) (o : Option Submission) → (judge_item x place caller o).1 ≡ replies.Verdict v → IsJudged x v o
+judged_item : (x : UnitState) (place caller : ℕ) (v : Verdict) (o : Option Submission)
+    → (judge_item x place caller o).1 ≡ replies.Verdict v → IsJudged x v o
 judged_item x place caller v None e = absurd (let n : replies.NoSuch ≡ replies.Verdict v = e in cc)
 judged_item x place caller v (Some item) e =
     cond_both item.queued (x, replies.Held) (verdict_step (closed place caller x) item.access (decision x.registers item.access)) (λ (r : UnitState × Reply). r.1 ≡ replies.Verdict v → IsJudged x v (Some item))

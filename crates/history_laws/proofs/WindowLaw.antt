@@ -3,12 +3,14 @@ use Rattle.std.specs.Prelude.{slice_get, option_map}
 use Rattle.std.specs.Int.{bit_at}
 use Rattle.std.specs.List.{AllByRecursion, list_any}
 use Rattle.std.proofs.lemmas.Bool.{and_parts, eqb-true, or_parts, false≢true, cases_eq}
+use Rattle.event_words.specs.Guards.{reg}
+use Rattle.event_words.specs.declared.register.Register.TheVariants.{Mdstall}
 use Rattle.event_words.specs.declared.shape.Shape.{Shape}
 use Rattle.event_words.specs.declared.access.Access.{Access}
 use Rattle.event_words.specs.declared.event.Event.{Event}
 use Rattle.event_words.specs.declared.event.Event.TheVariants.{RegWrite, RegRead, Submit, Judge}
 use Rattle.event_words.specs.declared.reply.Reply.TheVariants as replies
-use Rattle.event_words.specs.Registers.{word_at, has_bit, count_of_bool}
+use Rattle.event_words.specs.Registers.{has_bit, count_of_bool, index_of}
 use Rattle.event_words.specs.Stalls.{flag_of}
 use Rattle.unit_core.specs.declared.Submission.{Submission}
 use Rattle.unit_core.specs.Submissions.{is_item, is_draining}
@@ -28,14 +30,16 @@ use Rattle.unit_core.proofs.Items.{submit_cases, judge_cases, items_step, all_fo
 pub record IsFrom (h : History) (u : ℕ) (item : Submission) : Type 0 where
   pub taken : IsTaken h u item.caller item.place item.access
 
-new_from : (h : History) (u k : ℕ) (x : UnitState) (e : Event) (unit caller : ℕ) (a : Access) → taken_at h k ≡ Some e → unit_of e ≡ Some u → e ≡ Submit unit caller a → reply_at h k ≡ Some (unit_step k x e).1
+new_from : (h : History) (u k : ℕ) (x : UnitState) (e : Event) (unit caller : ℕ) (a : Access) → taken_at h k ≡ Some e → unit_of e ≡ Some u
+    → e ≡ Submit unit caller a → reply_at h k ≡ Some (unit_step k x e).1
     → ((unit_step k x e).1 ≡ replies.Passed) ⊎ ((unit_step k x e).1 ≡ replies.Queued) → IsTaken h u caller k a
 new_from h u k x e unit caller a q t s r taken = record {
   event = submission_taken h k u caller a (q ∙ ap (λ f. Some f) s ∙ (let m : unit_of (Submit unit caller a) ≡ Some u = ap unit_of (sym s) ∙ t in let n : unit ≡ u = cc in ap (λ n. Some (Submit n caller a)) n));
   reply = ⊎_elim (λ p. inl (r ∙ ap (λ y. Some y) p)) (λ p. inr (r ∙ ap (λ y. Some y) p)) taken;
 }
 
-pub own_from : (h : History) (u : ℕ) (shape : Shape) → slice_get h.shapes u ≡ Some shape → (k : ℕ) → AllByRecursion (IsFrom h u) (own_state h u shape k).submissions
+pub own_from : (h : History) (u : ℕ) (shape : Shape) → slice_get h.shapes u ≡ Some shape → (k : ℕ)
+    → AllByRecursion (IsFrom h u) (own_state h u shape k).submissions
 own_from h u shape there zero = tt
 own_from h u shape there (suc k) =
     let x = own_state h u shape k in
@@ -49,19 +53,20 @@ own_from h u shape there (suc k) =
 
 -- ---- MDSTALL's bit 0 is free for the answer
 
-even_step : (k : ℕ) (x : UnitState) (e : Event) → bit_at (word_at x.registers 12) 0 ≡ 0 → bit_at (word_at (unit_step k x e).0.registers 12) 0 ≡ 0
+even_step : (k : ℕ) (x : UnitState) (e : Event) → bit_at (reg x.registers Mdstall) 0 ≡ 0
+    → bit_at (reg (unit_step k x e).0.registers Mdstall) 0 ≡ 0
 even_step k x (RegWrite unit caller index value) h = written_even x.registers index value _ h
 even_step k x (RegRead unit caller index) h = h
 even_step k x (Submit unit caller a) h =
-    submit_cases (λ r. bit_at (word_at r.0.registers 12) 0 ≡ 0) k x caller a (λ e. h) (λ e f. h) (λ d. recorded_even x.registers a d h) h
+    submit_cases (λ r. bit_at (reg r.0.registers Mdstall) 0 ≡ 0) k x caller a (λ e. h) (λ e f. h) (λ d. recorded_even x.registers a d h) h
 even_step k x (Judge unit caller place) h =
-    judge_cases (λ r. bit_at (word_at r.0.registers 12) 0 ≡ 0) x place caller (λ e. h) (λ item e f. h) (λ item e f v. h)
+    judge_cases (λ r. bit_at (reg r.0.registers Mdstall) 0 ≡ 0) x place caller (λ e. h) (λ item e f. h) (λ item e f v. h)
     (λ item e f d v. recorded_even x.registers item.access d h)
 even_step k x _ h = h
 
-own_even : (h : History) (u : ℕ) (shape : Shape) (k : ℕ) → bit_at (word_at (own_state h u shape k).registers 12) 0 ≡ 0
+own_even : (h : History) (u : ℕ) (shape : Shape) (k : ℕ) → bit_at (reg (own_state h u shape k).registers Mdstall) 0 ≡ 0
 own_even h u shape k =
-    own_induction (λ k x. bit_at (word_at x.registers 12) 0 ≡ 0) h u shape (reset_even shape) (λ k x s. s) (λ k x e q t s. even_step k x e s) k
+    own_induction (λ k x. bit_at (reg x.registers Mdstall) 0 ≡ 0) h u shape (reset_even shape) (λ k x s. s) (λ k x e q t s. even_step k x e s) k
 
 odd_one : (w : ℕ) (busy : Bool) → bit_at w 0 ≡ 0 → has_bit (w + count_of_bool busy) 0 ≡ false → busy ≡ false
 odd_one w true e f =
@@ -75,7 +80,8 @@ odd_one w false e f = refl
 abbrev IsHeldOf : ℕ → Submission → Type 0
 IsHeldOf s item = item.access.rrid ≡ s → item.queued ≡ true
 
-idle_held : (flags : List Bool) (s : ℕ) (items : List Submission) → flag_of flags s ≡ true → list_any (is_draining flags) items ≡ false → AllByRecursion (IsHeldOf s) items
+idle_held : (flags : List Bool) (s : ℕ) (items : List Submission) → flag_of flags s ≡ true → list_any (is_draining flags) items ≡ false
+    → AllByRecursion (IsHeldOf s) items
 idle_held flags s [] f e = tt
 idle_held flags s (item ∷ items) f e =
     let parts = or_parts (is_draining flags item) (list_any (is_draining flags) items) e in
@@ -96,7 +102,8 @@ held_step s k x e f g h =
 flagged_shape : (h : History) (u s k : ℕ) → is_flagged (state_at h k u) s ≡ true → (shape : Shape) × (slice_get h.shapes u ≡ Some shape)
 flagged_shape h u s k e = there (slice_get h.shapes u) refl (subst (λ o. is_flagged o s ≡ true) (own h u k) e)
   where
-    there : (o : Option Shape) → slice_get h.shapes u ≡ o → is_flagged (option_map (λ shape. own_state h u shape k) o) s ≡ true → (shape : Shape) × (slice_get h.shapes u ≡ Some shape)
+    there : (o : Option Shape) → slice_get h.shapes u ≡ o → is_flagged (option_map (λ shape. own_state h u shape k) o) s ≡ true
+        → (shape : Shape) × (slice_get h.shapes u ≡ Some shape)
     there None q e = absurd (false≢true e)
     there (Some shape) q e = (shape, q)
 
@@ -108,10 +115,10 @@ held_at h u s b p shape q w f k = from k (cases_eq b k)
     start : AllByRecursion (IsHeldOf s) (own_state h u shape b).submissions
     start =
         let x = own_state h u shape b in
-        let r = reply_is h b (RegRead u w.caller 12) u (replies.Value w.value) x refl (as_it_is h b (RegRead u w.caller 12) refl w.event) w.reply (own_at h u b shape q) in
-        let value : read_value x 12 ≡ w.value = cc in
+        let r = reply_is h b (RegRead u w.caller (index_of Mdstall)) u (replies.Value w.value) x refl (as_it_is h b (RegRead u w.caller (index_of Mdstall)) refl w.event) w.reply (own_at h u b shape q) in
+        let value : read_value x (index_of Mdstall) ≡ w.value = cc in
         idle_held x.flags s x.submissions (f b (omega arith) (omega (arith, w.later)))
-        (odd_one (word_at x.registers 12) (is_busy x) (own_even h u shape b) (subst (λ n. has_bit n 0 ≡ false) (sym value) w.idle))
+        (odd_one (reg x.registers Mdstall) (is_busy x) (own_even h u shape b) (subst (λ n. has_bit n 0 ≡ false) (sym value) w.idle))
 
     from : (k : ℕ) → (b ≡ k) ⊎ (b ≡ k → ⊥) → b ≤ k → k ≤ p → AllByRecursion (IsHeldOf s) (own_state h u shape k).submissions
     from k (inl e) l m = subst (λ j. AllByRecursion (IsHeldOf s) (own_state h u shape j).submissions) e start

@@ -24,7 +24,8 @@ length_events (w ∷ ws) all =
     ap (λ o. length (with_event o (events_of_words ws))) e.back ∙ ap suc (length_events ws all.1)
 
 -- The event at a place is that of the word at the place.
-pub events_at_words : (words : List ℕ) → AllByRecursion IsEventWord words → (k : ℕ) → slice_get (events_of_words words) k ≡ option_and_then event_of_word (slice_get words k)
+pub events_at_words : (words : List ℕ) → AllByRecursion IsEventWord words → (k : ℕ)
+    → slice_get (events_of_words words) k ≡ option_and_then event_of_word (slice_get words k)
 events_at_words [] all k = refl
 events_at_words (w ∷ ws) all zero =
     let e = word_event w all.0 in
@@ -38,10 +39,12 @@ word_at_place [] all k w q = absurd (let n : None ≡ Some w = q in cc)
 word_at_place (v ∷ ws) all zero w q = let same : v ≡ w = cc in subst HasEvent same (word_event v all.0)
 word_at_place (v ∷ ws) all (suc k) w q = word_at_place ws all.1 k w q
 
-pub event_at_words : (shapes : List Shape) (words : List ℕ) → AllByRecursion IsEventWord words → (k w : ℕ) (e : Event) → slice_get words k ≡ Some w → event_of_word w ≡ Some e → event_at (history_of shapes words) k ≡ Some e
+pub event_at_words : (shapes : List Shape) (words : List ℕ) → AllByRecursion IsEventWord words → (k w : ℕ) (e : Event)
+    → slice_get words k ≡ Some w → event_of_word w ≡ Some e → event_at (history_of shapes words) k ≡ Some e
 event_at_words shapes words all k w e q r = events_at_words words all k ∙ ap (option_and_then event_of_word) q ∙ r
 
-pub event_at_word_of : (shapes : List Shape) (words : List ℕ) → AllByRecursion IsEventWord words → (k : ℕ) (e : Event) → IsValidEvent e → slice_get words k ≡ Some (word_of e) → event_at (history_of shapes words) k ≡ Some e
+pub event_at_word_of : (shapes : List Shape) (words : List ℕ) → AllByRecursion IsEventWord words → (k : ℕ) (e : Event) → IsValidEvent e
+    → slice_get words k ≡ Some (word_of e) → event_at (history_of shapes words) k ≡ Some e
 event_at_word_of shapes words all k e valid q = event_at_words shapes words all k (word_of e) e q (event_of_word-word_of e valid)
 
 -- ---- the fabric
@@ -55,7 +58,8 @@ after_word_at k f None = f
 after_word_at k f (Some w) = state_after_word f k w
 
 one_more : (j : ℕ) (f : FabricState) (words : List ℕ) (k : ℕ)
-    → run_from state_after_word j f (take (suc k) words) ≡ after_word_at (j + k) (run_from state_after_word j f (take k words)) (slice_get words k)
+    → run_from state_after_word j f (take (suc k) words)
+    ≡ after_word_at (j + k) (run_from state_after_word j f (take k words)) (slice_get words k)
 one_more j f [] zero = refl
 one_more j f [] (suc k) = refl
 one_more j f (w ∷ ws) zero = let q : j ≡ j + 0 = omega arith in ap (λ n. state_after_word f n w) q
@@ -76,7 +80,8 @@ same_step k f None = refl
 same_step k f (Some w) = same_fabric k f (event_of_word w)
 
 -- The fabric before a place is that after the words before it.
-pub fabric_at_words : (shapes : List Shape) (words : List ℕ) → AllByRecursion IsEventWord words → (k : ℕ) → fabric_at (history_of shapes words) k ≡ run state_after_word (fabric_at_reset shapes) (take k words)
+pub fabric_at_words : (shapes : List Shape) (words : List ℕ) → AllByRecursion IsEventWord words → (k : ℕ)
+    → fabric_at (history_of shapes words) k ≡ run state_after_word (fabric_at_reset shapes) (take k words)
 fabric_at_words shapes words all zero = refl
 fabric_at_words shapes words all (suc k) =
     let f = run state_after_word (fabric_at_reset shapes) (take k words) in
@@ -87,10 +92,12 @@ fabric_at_words shapes words all (suc k) =
     ∙ ap (λ n. after_word_at n f (slice_get words k)) z
     ∙ sym (one_more 0 (fabric_at_reset shapes) words k)
 
-pub units_at_words : (shapes : List Shape) (words : List ℕ) → AllByRecursion IsEventWord words → (k : ℕ) → units_at (history_of shapes words) k ≡ (run state_after_word (fabric_at_reset shapes) (take k words)).units
+pub units_at_words : (shapes : List Shape) (words : List ℕ) → AllByRecursion IsEventWord words → (k : ℕ)
+    → units_at (history_of shapes words) k ≡ (run state_after_word (fabric_at_reset shapes) (take k words)).units
 units_at_words shapes words all k = ap (λ (f : FabricState). f.units) (fabric_at_words shapes words all k)
 
-pub aims_at_words : (shapes : List Shape) (words : List ℕ) → AllByRecursion IsEventWord words → (k : ℕ) → aims_at (history_of shapes words) k ≡ (run state_after_word (fabric_at_reset shapes) (take k words)).aims
+pub aims_at_words : (shapes : List Shape) (words : List ℕ) → AllByRecursion IsEventWord words → (k : ℕ)
+    → aims_at (history_of shapes words) k ≡ (run state_after_word (fabric_at_reset shapes) (take k words)).aims
 aims_at_words shapes words all k = ap (λ (f : FabricState). f.aims) (fabric_at_words shapes words all k)
 
 -- ---- replies
@@ -111,9 +118,13 @@ abbrev pub entry : ℕ → Option Event → Option Reply → Option LoggedEvent
 entry k (Some e) (Some r) = Some (record { place = k; event = e; reply = r })
 entry k _ _ = None
 
+-- the reply to the word at place k of words whose places begin at j
+abbrev reply_in : ℕ → FabricState → List ℕ → ℕ → Option Reply
+reply_in j f words k = option_map (reply_to_word (run_from state_after_word j f (take k words)) (j + k)) (slice_get words k)
+
 logged_at : (j : ℕ) (f : FabricState) (words : List ℕ) → AllByRecursion IsEventWord words → (k : ℕ)
     → slice_get (logged_from state_after_word reply_to_word j f words) k
-    ≡ entry (j + k) (option_and_then event_of_word (slice_get words k)) (option_map (reply_to_word (run_from state_after_word j f (take k words)) (j + k)) (slice_get words k))
+    ≡ entry (j + k) (option_and_then event_of_word (slice_get words k)) (reply_in j f words k)
 logged_at j f [] all k = refl
 logged_at j f (w ∷ ws) all zero =
     let e = word_event w all.0 in
@@ -127,7 +138,8 @@ logged_at j f (w ∷ ws) all (suc k) =
     ∙ logged_at (suc j) (state_after_word f j w) ws all.1 k
     ∙ ap (λ n. entry n (option_and_then event_of_word (slice_get ws k)) (option_map (reply_to_word (run_from state_after_word (suc j) (state_after_word f j w) (take k ws)) n) (slice_get ws k))) q
 
-length_from : (j : ℕ) (f : FabricState) (words : List ℕ) → AllByRecursion IsEventWord words → length (logged_from state_after_word reply_to_word j f words) ≡ length words
+length_from : (j : ℕ) (f : FabricState) (words : List ℕ) → AllByRecursion IsEventWord words
+    → length (logged_from state_after_word reply_to_word j f words) ≡ length words
 length_from j f [] all = refl
 length_from j f (w ∷ ws) all =
     let e = word_event w all.0 in
@@ -135,7 +147,8 @@ length_from j f (w ∷ ws) all =
     ∙ ap suc (length_from (suc j) (state_after_word f j w) ws all.1)
 
 -- There is an entry for each word.
-pub length_logged : (shapes : List Shape) (words : List ℕ) → AllByRecursion IsEventWord words → length (logged_in shapes words) ≡ length words
+pub length_logged : (shapes : List Shape) (words : List ℕ) → AllByRecursion IsEventWord words
+    → length (logged_in shapes words) ≡ length words
 length_logged shapes words all = length_from 0 (fabric_at_reset shapes) words all
 
 -- The entry of a place has the place, its event and its reply, and there are no others.
@@ -149,7 +162,9 @@ logged_in_at shapes words all k =
     ∙ ap (λ o. entry k o (option_map (reply_to_word (run state_after_word f (take k words)) k) (slice_get words k))) (sym (events_at_words words all k))
     ∙ ap (entry k (event_at (history_of shapes words) k)) (sym (reply_there (slice_get words k) refl))
   where
-    reply_there : (o : Option ℕ) → slice_get words k ≡ o → reply_at (history_of shapes words) k ≡ option_map (reply_to_word (run state_after_word (fabric_at_reset shapes) (take k words)) k) o
+    reply_there : (o : Option ℕ) → slice_get words k ≡ o
+        → reply_at (history_of shapes words) k
+        ≡ option_map (reply_to_word (run state_after_word (fabric_at_reset shapes) (take k words)) k) o
     reply_there None q =
         ap (option_map (λ (e : Event). (event_step k (aims_at (history_of shapes words) k) (units_at (history_of shapes words) k) e).1)) (events_at_words words all k ∙ ap (option_and_then event_of_word) q)
     reply_there (Some w) q = reply_at_words shapes words all k w q
@@ -160,10 +175,12 @@ pub record IsEntry (shapes : List Shape) (words : List ℕ) (k : ℕ) (x : Logge
   pub event : event_at (history_of shapes words) k ≡ Some x.event
   pub reply : reply_at (history_of shapes words) k ≡ Some x.reply
 
-pub is_entry : (shapes : List Shape) (words : List ℕ) → AllByRecursion IsEventWord words → (k : ℕ) (x : LoggedEvent) → slice_get (logged_in shapes words) k ≡ Some x → IsEntry shapes words k x
+pub is_entry : (shapes : List Shape) (words : List ℕ) → AllByRecursion IsEventWord words → (k : ℕ) (x : LoggedEvent)
+    → slice_get (logged_in shapes words) k ≡ Some x → IsEntry shapes words k x
 is_entry shapes words all k x q = by_parts (event_at (history_of shapes words) k) (reply_at (history_of shapes words) k) refl refl (sym (logged_in_at shapes words all k) ∙ q)
   where
-    by_parts : (o : Option Event) (r : Option Reply) → event_at (history_of shapes words) k ≡ o → reply_at (history_of shapes words) k ≡ r → entry k o r ≡ Some x → IsEntry shapes words k x
+    by_parts : (o : Option Event) (r : Option Reply) → event_at (history_of shapes words) k ≡ o → reply_at (history_of shapes words) k ≡ r
+        → entry k o r ≡ Some x → IsEntry shapes words k x
     by_parts None r p s e = absurd (let n : None ≡ Some x = e in cc)
     by_parts (Some v) None p s e = absurd (let n : None ≡ Some x = e in cc)
     by_parts (Some v) (Some r) p s e =
@@ -177,7 +194,8 @@ is_entry shapes words all k x q = by_parts (event_at (history_of shapes words) k
         some_same : (a b : LoggedEvent) → Some a ≡ Some b → a ≡ b
         some_same a b e = cc
 
-pub has_entry : (shapes : List Shape) (words : List ℕ) → AllByRecursion IsEventWord words → (k : ℕ) (e : Event) (r : Reply) → event_at (history_of shapes words) k ≡ Some e → reply_at (history_of shapes words) k ≡ Some r
+pub has_entry : (shapes : List Shape) (words : List ℕ) → AllByRecursion IsEventWord words → (k : ℕ) (e : Event) (r : Reply)
+    → event_at (history_of shapes words) k ≡ Some e → reply_at (history_of shapes words) k ≡ Some r
     → slice_get (logged_in shapes words) k ≡ Some (record { place = k; event = e; reply = r })
 has_entry shapes words all k e r p q =
     logged_in_at shapes words all k ∙ ap (λ o. entry k o (reply_at (history_of shapes words) k)) p ∙ ap (entry k (Some e)) q

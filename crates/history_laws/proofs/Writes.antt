@@ -25,7 +25,8 @@ append_nothing [] = refl
 append_nothing (x ∷ xs) = ap (λ ys. x ∷ ys) (append_nothing xs)
 
 -- The writes before the next place.
-pub writes_next : (es : List Event) (k : ℕ) (e : Event) → slice_get es k ≡ Some e → writes (take (suc k) es) ≡ writes (take k es) ++ write_of e
+pub writes_next : (es : List Event) (k : ℕ) (e : Event) → slice_get es k ≡ Some e
+    → writes (take (suc k) es) ≡ writes (take k es) ++ write_of e
 writes_next [] k e h = absurd (let n : None ≡ Some e = h in cc)
 writes_next (f ∷ es) zero e h = let same : f ≡ e = cc in append_nothing (write_of f) ∙ ap write_of same
 writes_next (f ∷ es) (suc k) e h = ap (λ ws. write_of f ++ ws) (writes_next es k e h) ∙ sym (append_assoc (write_of f) (writes (take k es)) (write_of e))
@@ -37,7 +38,8 @@ writes_past (f ∷ es) zero h = absurd (let n : Some f ≡ None = h in cc)
 writes_past (f ∷ es) (suc k) h = ap (λ ws. write_of f ++ ws) (writes_past es k h)
 
 -- all writes, cut at a place
-pub writes_cut : (es : List Event) (k : ℕ) (e : Event) → slice_get es k ≡ Some e → writes es ≡ writes (take k es) ++ (write_of e ++ writes (drop (suc k) es))
+pub writes_cut : (es : List Event) (k : ℕ) (e : Event) → slice_get es k ≡ Some e
+    → writes es ≡ writes (take k es) ++ (write_of e ++ writes (drop (suc k) es))
 writes_cut [] k e h = absurd (let n : None ≡ Some e = h in cc)
 writes_cut (f ∷ es) zero e h = let same : f ≡ e = cc in ap (λ g. write_of g ++ writes es) same
 writes_cut (f ∷ es) (suc k) e h = ap (λ ws. write_of f ++ ws) (writes_cut es k e h) ∙ sym (append_assoc (write_of f) (writes (take k es)) (write_of e ++ writes (drop (suc k) es)))
@@ -55,13 +57,15 @@ cut_at [] k x h = absurd (let n : None ≡ Some x = h in cc)
 cut_at (y ∷ xs) zero x h = let same : y ≡ x = cc in ap (λ z. z ∷ xs) same
 cut_at (y ∷ xs) (suc k) x h = ap (λ ys. y ∷ ys) (cut_at xs k x h)
 
-pub all_before : {A : Type 0} (P : A → Type 0) (xs : List A) (k : ℕ) → ((j : ℕ) (x : A) → j < k → slice_get xs j ≡ Some x → P x) → AllByRecursion P (take k xs)
+pub all_before : {A : Type 0} (P : A → Type 0) (xs : List A) (k : ℕ) → ((j : ℕ) (x : A) → j < k → slice_get xs j ≡ Some x → P x)
+    → AllByRecursion P (take k xs)
 all_before P [] zero h = tt
 all_before P [] (suc k) h = tt
 all_before P (x ∷ xs) zero h = tt
 all_before P (x ∷ xs) (suc k) h = (h 0 x (omega arith) refl, all_before P xs k (λ j y l e. h (suc j) y (omega arith) e))
 
-pub all_from : {A : Type 0} (P : A → Type 0) (xs : List A) (k : ℕ) → ((j : ℕ) (x : A) → k ≤ j → slice_get xs j ≡ Some x → P x) → AllByRecursion P (drop k xs)
+pub all_from : {A : Type 0} (P : A → Type 0) (xs : List A) (k : ℕ) → ((j : ℕ) (x : A) → k ≤ j → slice_get xs j ≡ Some x → P x)
+    → AllByRecursion P (drop k xs)
 all_from P [] zero h = tt
 all_from P [] (suc k) h = tt
 all_from P (x ∷ xs) zero h = (h 0 x (omega arith) refl, all_from P xs zero (λ j y l e. h (suc j) y (omega arith) e))
@@ -89,16 +93,19 @@ all_filter P p (x ∷ xs) h = by (p x) (all_filter P p xs h.1)
     by false rest = rest
 
 -- what holds of the filtered elements holds of those that pass
-pub all_passing : {A : Type 0} (P : A → Type 0) (p : A → Bool) (xs : List A) → AllByRecursion P (filter p xs) → AllByRecursion (λ x. p x ≡ true → P x) xs
+pub all_passing : {A : Type 0} (P : A → Type 0) (p : A → Bool) (xs : List A) → AllByRecursion P (filter p xs)
+    → AllByRecursion (λ x. p x ≡ true → P x) xs
 all_passing P p [] h = tt
 all_passing P p (x ∷ xs) h = by (p x) (λ k. all_passing P p xs k) refl h
   where
-    by : (b : Bool) → (AllByRecursion P (filter p xs) → AllByRecursion (λ x. p x ≡ true → P x) xs) → p x ≡ b → AllByRecursion P (cond b (x ∷ filter p xs) (filter p xs)) → AllByRecursion (λ x. p x ≡ true → P x) (x ∷ xs)
+    by : (b : Bool) → (AllByRecursion P (filter p xs) → AllByRecursion (λ x. p x ≡ true → P x) xs) → p x ≡ b
+        → AllByRecursion P (cond b (x ∷ filter p xs) (filter p xs)) → AllByRecursion (λ x. p x ≡ true → P x) (x ∷ xs)
     by true rest t h = (λ e. h.0, rest h.1)
     by false rest t h = (λ e. absurd (let n : false ≡ true = sym t ∙ e in cc), rest h)
 
 -- so of a property with a number
-pub all_each : {A : Type 0} (P : ℕ → A → Type 0) (xs : List A) → ((c : ℕ) → AllByRecursion (P c) xs) → AllByRecursion (λ x. (c : ℕ) → P c x) xs
+pub all_each : {A : Type 0} (P : ℕ → A → Type 0) (xs : List A) → ((c : ℕ) → AllByRecursion (P c) xs)
+    → AllByRecursion (λ x. (c : ℕ) → P c x) xs
 all_each P [] h = tt
 all_each P (x ∷ xs) h = (λ c. (h c).0, all_each P xs (λ c. (h c).1))
 

@@ -9,4 +9,5 @@ use Rattle.unit_core.specs.Reports.{report_text}
 -- Two lists of event words, legal or not, that give equal reports under one script are equal. Each
 -- legal history is such a list.
 abbrev pub LawReports : Type 0
-LawReports = (shapes : List Shape) (boot : SectionOf) (lanes : List SectionOf) (v w : List ℕ) → AllByRecursion IsEventWord v → AllByRecursion IsEventWord w → report_text shapes boot lanes v ≡ report_text shapes boot lanes w → v ≡ w
+LawReports = (shapes : List Shape) (boot : SectionOf) (lanes : List SectionOf) (v w : List ℕ) → AllByRecursion IsEventWord v
+    → AllByRecursion IsEventWord w → report_text shapes boot lanes v ≡ report_text shapes boot lanes w → v ≡ w

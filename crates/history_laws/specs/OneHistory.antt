@@ -6,4 +6,5 @@ use Rattle.unit_core.specs.Histories.{IsLegalHistory}
 
 -- Two histories that are legal for the same boot section, without lanes, are equal.
 abbrev pub LawOneHistory : Type 0
-LawOneHistory = (shapes : List Shape) (boot : SectionOf) (v w : List ℕ) → IsLegalHistory shapes boot [] v → IsLegalHistory shapes boot [] w → v ≡ w
+LawOneHistory = (shapes : List Shape) (boot : SectionOf) (v w : List ℕ) → IsLegalHistory shapes boot [] v → IsLegalHistory shapes boot [] w
+    → v ≡ w

@@ -33,5 +33,7 @@ pub record IsDecidedByBoot (shapes : List Shape) (words : List ℕ) (u caller q 
 -- In a legal history of a script whose lanes write no register, each verdict on a lane's judgement is
 -- decided so.
 abbrev pub LawUnwritten : Type 0
-LawUnwritten = (shapes : List Shape) (boot : SectionOf) (lanes : List SectionOf) (words : List ℕ) → IsLegalHistory shapes boot lanes words → AllByRecursion HasNoRegisterWrites lanes
-    → (u caller q p : ℕ) (verdict : AnyVerdict) → 1 ≤ caller → event_at (history_of shapes words) p ≡ Some (Judge u caller q) → reply_at (history_of shapes words) p ≡ Some (Verdict verdict) → IsDecidedByBoot shapes words u caller q verdict
+LawUnwritten = (shapes : List Shape) (boot : SectionOf) (lanes : List SectionOf) (words : List ℕ) → IsLegalHistory shapes boot lanes words
+    → AllByRecursion HasNoRegisterWrites lanes
+    → (u caller q p : ℕ) (verdict : AnyVerdict) → 1 ≤ caller → event_at (history_of shapes words) p ≡ Some (Judge u caller q)
+    → reply_at (history_of shapes words) p ≡ Some (Verdict verdict) → IsDecidedByBoot shapes words u caller q verdict

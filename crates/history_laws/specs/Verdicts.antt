@@ -35,4 +35,5 @@ pub record IsDecided (h : History) (u caller q p : ℕ) (verdict : AnyVerdict) :
 
 -- A verdict is what the registers of its place decide on its submission's access.
 abbrev pub LawVerdicts : Type 0
-LawVerdicts = (h : History) (u caller q p : ℕ) (verdict : AnyVerdict) → event_at h p ≡ Some (Judge u caller q) → reply_at h p ≡ Some (Verdict verdict) → IsDecided h u caller q p verdict
+LawVerdicts = (h : History) (u caller q p : ℕ) (verdict : AnyVerdict) → event_at h p ≡ Some (Judge u caller q)
+    → reply_at h p ≡ Some (Verdict verdict) → IsDecided h u caller q p verdict

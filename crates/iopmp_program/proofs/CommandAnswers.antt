@@ -7,9 +7,13 @@ use Rattle.script_reader.specs.Scripts.{ScriptOf}
 use Rattle.script_reader.specs.Answers.{reading_of}
 use Rattle.policy_compiler.specs.Policies.{PolicyOf}
 use Rattle.policy_compiler.specs.Gives.{Reads}
+use Rattle.policy_compiler.specs.Images.{image_of}
+use Rattle.update_planner.specs.Plans.{plan_commands}
+use Rattle.update_planner.specs.Gives.{section_with}
+use Rattle.event_words.specs.declared.section.Command.{Command}
 use Rattle.event_words.specs.Sections.{SectionOf}
 use Rattle.unit_core.specs.Histories.{History, history_of, IsLegalHistory}
-use Rattle.history_laws.specs.Live.{KeepsPolicies, LawLive, IsLiveHistory}
+use Rattle.history_laws.specs.Live.{KeepsPolicies, LawLive, IsUpdateHistory}
 use Rattle.iopmp_program.specs.declared.status.Status.{Status}
 use Rattle.iopmp_program.specs.declared.status.Status.TheVariants.{Done}
 use Rattle.iopmp_program.specs.declared.answer.Answer.{Answer}
@@ -34,7 +38,8 @@ use Rattle.iopmp_program.specs.UpdatePlans.{plan_section, narrow_section, wanted
 use Rattle.iopmp_program.specs.PlanCommand.{IsPlanned, IsPlanText, Plans}
 use Rattle.iopmp_program.specs.PlansBeside.{script_beside, IsRunBeside, IsUpdateReport, IsUpdateLine}
 use Rattle.iopmp_program.specs.LiveCommand.{IsLiveReport}
-use Rattle.narrow_plans.specs.Laws.{LawNarrow, IsNarrowHistory, IsNarrow}
+use Rattle.narrow_plans.specs.NarrowPlans.{narrow_commands}
+use Rattle.narrow_plans.specs.Laws.{LawNarrow, IsNarrow}
 use Rattle.iopmp_program.specs.UpdateScripts.{IsPlayedOr}
 use Rattle.iopmp_program.specs.CommandTables.{Answers, plan_command, live_command, run_command}
 use Rattle.iopmp_program.proofs.UpdateRefusals.{IsPolicyOr}
@@ -130,15 +135,12 @@ legal_beside u plan wanted history text is run =
     let r : IsRun (script_beside wanted u run.lanes) history text = subst (λ s. IsRun (script_beside s u run.lanes) history text) is run.run in
     r.legal
 
-live_history : (u : UpdateOf) (plan : SectionOf) (history text : List ℕ) → IsReadable u → Plans (plan_section u) u plan → (run : IsRunBeside plan u history text) → IsLiveHistory u.old u.new u.polls run.lanes history
-live_history u plan history text good p run =
-    let legal = legal_beside u plan (plan_section u) history text p.is run in
+-- so its history is one of an update by the commands of that plan
+update_history : (commands : List Command) (u : UpdateOf) (plan : SectionOf) (history text : List ℕ) → IsReadable u → Plans (section_with commands) u plan
+    → (run : IsRunBeside plan u history text) → IsUpdateHistory commands u.old u.new run.lanes history
+update_history commands u plan history text good p run =
+    let legal = legal_beside u plan (section_with commands) history text p.is run in
     record { old_policy = good.old; new_policy = good.new; shapes = p.shapes; old_fits = p.old_fits; new_fits = p.new_fits; quiet = run.good.write_nothing; legal = legal }
-
-narrow_history : (u : UpdateOf) (plan : SectionOf) (history text : List ℕ) → IsReadable u → Plans (narrow_section u) u plan → (run : IsRunBeside plan u history text) → IsNarrowHistory u.old u.new u.polls run.lanes history
-narrow_history u plan history text good p run =
-    let legal = legal_beside u plan (narrow_section u) history text p.is run in
-    record { old_policy = good.old; new_policy = good.new; shapes = p.shapes; old_fits = p.old_fits; new_fits = p.new_fits; no_writes = run.good.write_nothing; legal = legal }
 
 -- what holds of each history of a plan holds of one that was reported
 pub beside_reported : (Law : PolicyOf → PolicyOf → History → Type 0) (u : UpdateOf) (plan wanted : SectionOf) (history text : List ℕ) → plan ≡ wanted → (run : IsRunBeside plan u history text) → Law u.old u.new (history_of (u.old.shape ∷ []) history)
@@ -160,9 +162,9 @@ beside_answers Law u plan wanted (Err NoMemory) is keeps h = tt
 
 pub update_played : LawLive → LawNarrow → (which : WhichPlan) (u : UpdateOf) (plan : SectionOf) (r : Result Answer NoAnswer) → IsReadable u → Plans (wanted_section which u) u plan → IsPlayedOr plan u r → UpdateAnswers (Keeps which) (wanted_section which u) u r
 update_played live narrow Whole u plan r good p h =
-    beside_answers KeepsPolicies u plan (plan_section u) r p.is (λ history text run. live u.old u.new u.polls run.lanes history (live_history u plan history text good p run)) h
+    beside_answers KeepsPolicies u plan (plan_section u) r p.is (λ history text run. live u.old u.new u.polls run.lanes history (update_history (plan_commands (image_of u.old) (image_of u.new) u.polls) u plan history text good p run)) h
 update_played live narrow plans.Narrow u plan r good p h =
-    beside_answers IsNarrow u plan (narrow_section u) r p.is (λ history text run. narrow u.old u.new u.polls run.lanes history (narrow_history u plan history text good p run)) h
+    beside_answers IsNarrow u plan (narrow_section u) r p.is (λ history text run. narrow u.old u.new u.polls run.lanes history (update_history (narrow_commands (image_of u.old) (image_of u.new) u.polls) u plan history text good p run)) h
 
 pub no_plan_played : (Law : PolicyOf → PolicyOf → History → Type 0) (u : UpdateOf) (plan : SectionOf) (e : NoAnswer)
     → (let r : Result SectionOf NoAnswer = Err e in GivesOr (Plans plan u) (HasNoPlan u) r) → UpdateAnswers Law plan u (Err e)

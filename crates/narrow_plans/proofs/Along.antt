@@ -15,18 +15,21 @@ use Rattle.narrow_plans.proofs.OtherEntries.{word_stays}
 has_own_view : (r : Registers) (s : ℕ) (view : List EntryView) → view ≡ view_of r s → true ≡ has_view s view r
 has_own_view r s view e = sym (ap (same_view view) (sym e) ∙ view_itself view)
 
-pub view_unwritten : (r q : Registers) (w : RegPair) (s : ℕ) (view : List EntryView) → view ≡ view_of r s → q ≡ guarded_write r w → word_at q w.index ≡ word_at r w.index → true ≡ has_view s view q
+pub view_unwritten : (r q : Registers) (w : RegPair) (s : ℕ) (view : List EntryView) → view ≡ view_of r s → q ≡ guarded_write r w
+    → word_at q w.index ≡ word_at r w.index → true ≡ has_view s view q
 view_unwritten r q w s view e f same =
     let g : q ≡ r = word_stays r q w.index w.value (guarded_bits r w.index) f same in
     has_own_view q s view (e ∙ ap (λ x. view_of x s) (sym g))
 
-pub view_left : (r q : Registers) (w : RegPair) (s : ℕ) (view : List EntryView) → view ≡ view_of r s → q ≡ guarded_write r w → LeavesView q w.index s → true ≡ has_view s view q
+pub view_left : (r q : Registers) (w : RegPair) (s : ℕ) (view : List EntryView) → view ≡ view_of r s → q ≡ guarded_write r w
+    → LeavesView q w.index s → true ≡ has_view s view q
 view_left r q w s view e f leaves =
     has_own_view q s view (e ∙ leaves r w.value (guarded_bits r w.index) f)
 
 -- ---- what is left of the writes
 
-pub after_more : (r : Registers) (ws : List RegPair) (i : ℕ) (d : RegPair) → i < length ws → after_writes r (drop i ws) ≡ after_writes (guarded_write r (get_or ws i d)) (drop (i + 1) ws)
+pub after_more : (r : Registers) (ws : List RegPair) (i : ℕ) (d : RegPair) → i < length ws
+    → after_writes r (drop i ws) ≡ after_writes (guarded_write r (get_or ws i d)) (drop (i + 1) ws)
 after_more r ws i d l = rw (drop-cons ws i d l, add-one i) refl
 
 abbrev pub all_have : ℕ → List EntryView → Registers → List RegPair → Bool
@@ -36,7 +39,8 @@ drop_here : (ws : List RegPair) (i : ℕ) (d : RegPair) → i < length ws → dr
 drop_here ws i d l = rw (add-one i) (drop-cons ws i d l)
 
 -- a state with the view, and the states after the next write
-next_state : (r : Registers) (s : ℕ) (view : List EntryView) (ws : List RegPair) (i : ℕ) (d : RegPair) → i < length ws → true ≡ has_view s view r → all_have s view r (drop i ws) ≡ all_have s view (guarded_write r (get_or ws i d)) (drop (i + 1) ws)
+next_state : (r : Registers) (s : ℕ) (view : List EntryView) (ws : List RegPair) (i : ℕ) (d : RegPair) → i < length ws
+    → true ≡ has_view s view r → all_have s view r (drop i ws) ≡ all_have s view (guarded_write r (get_or ws i d)) (drop (i + 1) ws)
 next_state r s view ws i d l t =
     ap (all_have s view r) (drop_here ws i d l) ∙ (ap (λ b. b && all_have s view (guarded_write r (get_or ws i d)) (drop (i + 1) ws)) (sym t))
 
@@ -56,11 +60,13 @@ module _ (r q : Registers) (s : ℕ) (view : List EntryView) (ws : List RegPair)
   pub write_differs : false ≡ has_view s view q → (whole : Bool) → all_have s view r (drop i ws) ≡ whole → not whole ≡ true
   write_differs t whole e = ap not (sym (other_view q s view (drop (i + 1) ws) t ∙ (goes_on ∙ e)))
 
-  pub write_agrees : has_view s view q ≡ true → (whole : Bool) → all_have s view r (drop i ws) ≡ whole → (view_of q s ≡ view) × (all_have s view q (drop (i + 1) ws) ≡ whole)
+  pub write_agrees : has_view s view q ≡ true → (whole : Bool) → all_have s view r (drop i ws) ≡ whole
+      → (view_of q s ≡ view) × (all_have s view q (drop (i + 1) ws) ≡ whole)
   write_agrees t whole e = (sym (true_view view (view_of q s) t), goes_on ∙ e)
 
 -- the last state
-pub writes_end : (r : Registers) (s : ℕ) (view : List EntryView) (ws : List RegPair) (i : ℕ) → length ws ≤ i → view_of r s ≡ view → (whole : Bool) → all_have s view r (drop i ws) ≡ whole → not whole ≡ false
+pub writes_end : (r : Registers) (s : ℕ) (view : List EntryView) (ws : List RegPair) (i : ℕ) → length ws ≤ i → view_of r s ≡ view
+    → (whole : Bool) → all_have s view r (drop i ws) ≡ whole → not whole ≡ false
 writes_end r s view ws i past seen whole e =
     let nothing : drop i ws ≡ [] = drop_of_length-le ws past in
     let last : all_have s view r [] ≡ true = ap (λ b. b && true) (sym (has_own_view r s view (sym seen))) in

@@ -24,13 +24,15 @@ use Rattle.narrow_plans.specs.Stalls.{changes_view, stalls}
 
 -- ---- one requester more
 
-stalls_more : (old : ImageOf) (ws : List RegPair) (s : ℕ) → stalls old ws (s + 1) ≡ stalls old ws s ++ map stall_command (filter (changes_view old ws) (s ∷ []))
+stalls_more : (old : ImageOf) (ws : List RegPair) (s : ℕ)
+    → stalls old ws (s + 1) ≡ stalls old ws s ++ map stall_command (filter (changes_view old ws) (s ∷ []))
 stalls_more old ws s =
     ap (λ is. map stall_command (filter (changes_view old ws) is)) (range_more 0 s s (omega arith))
     ∙ (ap (map stall_command) (filter-append (changes_view old ws) (range_with_len 0 s) (s ∷ []))
     ∙ map-append stall_command (filter (changes_view old ws) (range_with_len 0 s)) (filter (changes_view old ws) (s ∷ [])))
 
-pub one_stalled : (old : ImageOf) (ws : List RegPair) (s : ℕ) → changes_view old ws s ≡ true → stalls old ws (s + 1) ≡ stalls old ws s ++ stall_command s ∷ []
+pub one_stalled : (old : ImageOf) (ws : List RegPair) (s : ℕ) → changes_view old ws s ≡ true
+    → stalls old ws (s + 1) ≡ stalls old ws s ++ stall_command s ∷ []
 one_stalled old ws s t = rw t at (stalls_more old ws s)
 
 pub none_stalled : (old : ImageOf) (ws : List RegPair) (s : ℕ) → changes_view old ws s ≡ false → stalls old ws (s + 1) ≡ stalls old ws s
@@ -81,7 +83,8 @@ commands_are old new polls ws cs e f =
 
 -- ---- the section
 
-valid_stalls : (is : List ℕ) (rest : List Command) → AllByRecursion (λ s. s < 2 ^ 30) is → AreValidCommands 0 rest → AreValidCommands 0 (map stall_command is ++ rest)
+valid_stalls : (is : List ℕ) (rest : List Command) → AllByRecursion (λ s. s < 2 ^ 30) is → AreValidCommands 0 rest
+    → AreValidCommands 0 (map stall_command is ++ rest)
 valid_stalls [] rest small valid = valid
 valid_stalls (s ∷ is) rest small valid = ((omega arith, omega arith, omega (arith, small.0)), valid_stalls is rest small.1 valid)
 
@@ -89,17 +92,20 @@ no_submits : (is : List ℕ) (rest : List Command) → count_by is_submit rest �
 no_submits [] rest none = none
 no_submits (s ∷ is) rest none = no_submits is rest none
 
-few_stalls : (p : ℕ → Bool) (a n : ℕ) → (length (filter p (range_with_len a n)) ≤ n) × (a + n ≤ 2 ^ 30 → AllByRecursion (λ s. s < 2 ^ 30) (filter p (range_with_len a n)))
+few_stalls : (p : ℕ → Bool) (a n : ℕ)
+    → (length (filter p (range_with_len a n)) ≤ n) × (a + n ≤ 2 ^ 30 → AllByRecursion (λ s. s < 2 ^ 30) (filter p (range_with_len a n)))
 few_stalls p a zero = (omega arith, λ l. tt)
 few_stalls p a (suc n) =
     let rest = few_stalls p (a + 1) n in
     by_case (p a) (filter p (range_with_len (a + 1) n)) rest.0 rest.1
   where
-    by_case : (b : Bool) (is : List ℕ) → length is ≤ n → ((a + 1) + n ≤ 2 ^ 30 → AllByRecursion (λ s. s < 2 ^ 30) is) → (length (cond b (a ∷ is) is) ≤ suc n) × (a + suc n ≤ 2 ^ 30 → AllByRecursion (λ s. s < 2 ^ 30) (cond b (a ∷ is) is))
+    by_case : (b : Bool) (is : List ℕ) → length is ≤ n → ((a + 1) + n ≤ 2 ^ 30 → AllByRecursion (λ s. s < 2 ^ 30) is)
+        → (length (cond b (a ∷ is) is) ≤ suc n) × (a + suc n ≤ 2 ^ 30 → AllByRecursion (λ s. s < 2 ^ 30) (cond b (a ∷ is) is))
     by_case true is few small = (omega arith, λ l. (omega arith, small (omega arith)))
     by_case false is few small = (omega arith, λ l. small (omega arith))
 
-pub valid_narrow : (old new : PolicyOf) (i j : ImageOf) (polls : ℕ) → i ≡ image_of old → j ≡ image_of new → IsPolicy old → IsPolicy new → need_refusal new ≡ None → IsMax polls → IsValidSection (section_with (narrow_commands i j polls))
+pub valid_narrow : (old new : PolicyOf) (i j : ImageOf) (polls : ℕ) → i ≡ image_of old → j ≡ image_of new → IsPolicy old → IsPolicy new
+    → need_refusal new ≡ None → IsMax polls → IsValidSection (section_with (narrow_commands i j polls))
 unfolding narrow_commands affected image_of
 valid_narrow old new i j polls e f first good fits max =
     let tail = valid_tail new i j polls f good fits max in

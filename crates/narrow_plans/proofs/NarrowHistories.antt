@@ -57,7 +57,8 @@ module _ (old stalls tables : List RegPair) (each : AllByRecursion IsStall stall
       let part = all_parts IsStall done more (subst (AllByRecursion IsStall) e each) in
       record { part = []; rest = tables; is = refl; same = λ i p q. with_stalls old done part.0 i p q ∙ ap (λ xs. value_of xs i) (sym (append_nothing old)) }
 
-  rewriting : (done part to_do : List RegPair) → done ≡ stalls ++ part → part ++ to_do ≡ tables ++ release_write ∷ [] → IsOnTheWay old tables done
+  rewriting : (done part to_do : List RegPair) → done ≡ stalls ++ part → part ++ to_do ≡ tables ++ release_write ∷ []
+      → IsOnTheWay old tables done
   rewriting done part to_do e f = by (two_cuts part to_do tables (release_write ∷ []) f)
     where
       same : SameValues (old ++ done) (old ++ part)
@@ -75,7 +76,8 @@ module _ (old stalls tables : List RegPair) (each : AllByRecursion IsStall stall
           }
       last (w ∷ (v ∷ more)) g t = absurd (let n : v ∷ (more ++ to_do) ≡ [] = cc in cc)
 
-      by : CutInFirst part to_do tables (release_write ∷ []) ⊎ CutInSecond part to_do tables (release_write ∷ []) → IsOnTheWay old tables done
+      by : CutInFirst part to_do tables (release_write ∷ []) ⊎ CutInSecond part to_do tables (release_write ∷ [])
+          → IsOnTheWay old tables done
       by (inl c) = record { part = part; rest = c.more; is = c.first; same = same }
       by (inr c) = last c.more c.rest c.taken
 
@@ -83,7 +85,8 @@ module _ (old stalls tables : List RegPair) (each : AllByRecursion IsStall stall
   on_the_way done to_do whole e (inl w) = stalling done to_do (sym (e ∙ w))
   on_the_way done to_do whole e (inr w) = by (two_cuts done to_do stalls (tables ++ release_write ∷ []) (e ∙ w))
     where
-      by : CutInFirst done to_do stalls (tables ++ release_write ∷ []) ⊎ CutInSecond done to_do stalls (tables ++ release_write ∷ []) → IsOnTheWay old tables done
+      by : CutInFirst done to_do stalls (tables ++ release_write ∷ []) ⊎ CutInSecond done to_do stalls (tables ++ release_write ∷ [])
+          → IsOnTheWay old tables done
       by (inl c) = stalling done c.more c.first
       by (inr c) = rewriting done c.more to_do c.taken c.rest
 
@@ -93,7 +96,8 @@ nobody_spares : (s : ℕ) (ws : List RegPair) → StallNobody ws → AllByRecurs
 nobody_spares s [] h = tt
 nobody_spares s (w ∷ ws) h = (flag_kept s false (w ∷ []) (h.0, tt), nobody_spares s ws h.1)
 
-update_spares : (s : ℕ) (stalls tables whole : List RegPair) → AllByRecursion (Spares s) stalls → StallNobody tables → IsUpdate stalls tables whole → AllByRecursion (Spares s) whole
+update_spares : (s : ℕ) (stalls tables whole : List RegPair) → AllByRecursion (Spares s) stalls → StallNobody tables
+    → IsUpdate stalls tables whole → AllByRecursion (Spares s) whole
 update_spares s stalls tables whole spares quiet (inl e) = subst (AllByRecursion (Spares s)) (sym e) spares
 update_spares s stalls tables whole spares quiet (inr e) =
     subst (AllByRecursion (Spares s)) (sym e)
@@ -116,7 +120,8 @@ module _ (old new : PolicyOf) where
     written m = done old new stalls tables h xs u m
 
     -- On an unaffected requester each place decides as both policies do.
-    unaffected_case : (m : ℕ) (a : Access) → IsValidAccess a → IsUnaffected old new a.rrid → IsOfBoth old new a (kind_at old new stalls tables h xs u m a)
+    unaffected_case : (m : ℕ) (a : Access) → IsValidAccess a → IsUnaffected old new a.rrid
+        → IsOfBoth old new a (kind_at old new stalls tables h xs u m a)
     unaffected_case m a valid calm =
         let way = on_the_way (image_of old).writes stalls tables u.stalling (written m) (to_do old new stalls tables h xs u m) _
         (cut old new stalls tables h xs u m) (update old new stalls tables h xs u) in
@@ -134,7 +139,8 @@ module _ (old new : PolicyOf) where
         ∙ (flag_append s false (image_of old).writes (written m)
         ∙ (ap (λ b. flag_from s b (written m)) (flag_kept s false (image_of old).writes (image_stalls_nobody old u.good_old u.fits_old)) ∙ stay_clear s (written m) part.0))
 
-    submission_passes : (p caller : ℕ) (access : Access) → IsSubmission h p 0 caller access → IsUnaffected old new access.rrid → reply_at h p ≡ Some replies.Passed
+    submission_passes : (p caller : ℕ) (access : Access) → IsSubmission h p 0 caller access → IsUnaffected old new access.rrid
+        → reply_at h p ≡ Some replies.Passed
     submission_passes p caller a submission calm =
         let taken = submit_of h p 0 caller a submission in
         let from = taken_from h p (Submit 0 caller a) taken in
@@ -151,7 +157,8 @@ module _ (old new : PolicyOf) where
         no_write (RegWrite unit caller index value) w = absurd (let n : pair index value ∷ [] ≡ [] = w in cc)
         no_write _ w = tt
 
-    verdict_follows : (p caller q : ℕ) (verdict : AnyVerdict) → event_at h p ≡ Some (Judge 0 caller q) → reply_at h p ≡ Some (replies.Verdict verdict) → IsNarrowVerdict old new h caller q p verdict
+    verdict_follows : (p caller q : ℕ) (verdict : AnyVerdict) → event_at h p ≡ Some (Judge 0 caller q)
+        → reply_at h p ≡ Some (replies.Verdict verdict) → IsNarrowVerdict old new h caller q p verdict
     verdict_follows p caller q verdict event reply =
         let j = judged old new stalls tables h xs u p caller q verdict event reply in
         let none = λ (a : IsAffected old new j.access.rrid). none_between old new stalls tables h xs u p caller q verdict event reply j a.0 (stalls_affected old new j.access.rrid u.good_old a) in
@@ -175,7 +182,7 @@ module _ (old new : PolicyOf) where
 pub law_narrow : LawNarrow
 law_narrow old new polls lanes words n =
     let live = live_list (old.shape ∷ []) (image_of old).writes (stalls old new) (tables old new) polls (image_section (image_of old)) (section_with (narrow_commands (image_of old) (image_of new) polls)) lanes words
-    refl (narrow_is (image_of old) (image_of new) polls) n.no_writes n.legal in
+    refl (narrow_is (image_of old) (image_of new) polls) n.quiet n.legal in
     let u : IsUpdating old new (stalls old new) (tables old new) (history_of (old.shape ∷ []) words) (logged_in (old.shape ∷ []) words) =
     record {
       good_old = n.old_policy;

@@ -1,13 +1,13 @@
 -- The states between two images: what stands in them, and that they decide alike for an unaffected requester.
-use Rattle.std.proofs.Common.{◌≡◌, ℕ, ◌+◌, ◌≤◌, ◌++◌, ◌==◌, Bool, true, false, None, List, [], ◌∷◌, refl, sym, ap, subst, ◌∙◌, arith}
-use Rattle.std.specs.Bool.{beq}
+use Rattle.std.proofs.Common.{◌≡◌, ℕ, ◌≤◌, ◌++◌, ◌==◌, true, None, List, [], ◌∷◌, refl, sym, ap, subst, ◌∙◌, arith}
 use Rattle.std.specs.List.{AllByRecursion, list_all}
-use Rattle.std.proofs.lemmas.Bool.{and_parts, eqb-true}
+use Rattle.std.proofs.lemmas.Bool.{and_parts}
+use Rattle.event_words.specs.declared.register.Register.TheVariants.{Hwcfg0, Hwcfg2, Mdcfg}
 use Rattle.event_words.specs.declared.shape.Shape.{Shape}
 use Rattle.event_words.specs.declared.access.Access.{Access}
 use Rattle.event_words.specs.Valid.{IsValidAccess}
-use Rattle.event_words.specs.Registers.{Registers, word_at, bits_of, at_reset}
-use Rattle.event_words.specs.Guards.{is_enabled}
+use Rattle.event_words.specs.Registers.{Registers, word_at, bits_of, at_reset, index_of}
+use Rattle.event_words.specs.Guards.{is_enabled, reg}
 use Rattle.event_words.specs.Domains.{bound_of}
 use Rattle.event_words.specs.Decisions.{decision}
 use Rattle.policy_compiler.specs.declared.image.RegPair.{RegPair}
@@ -23,7 +23,8 @@ use Rattle.history_laws.proofs.PlanParts.{AreNot, value_kept}
 use Rattle.history_laws.proofs.UpdateWrites.{Rewrites, tame_next, next_both, rewrites_tame, rewrites_not}
 use Rattle.history_laws.proofs.SameTables.{decide_alike}
 use Rattle.history_laws.proofs.TableRewrites.{tables_between, rewrites_between}
-use Rattle.narrow_plans.specs.Views.{EntryView, view_of, same_entry, same_view}
+use Rattle.narrow_plans.proofs.SameViews.{true_view}
+use Rattle.narrow_plans.specs.Views.{EntryView, view_of}
 use Rattle.narrow_plans.specs.BetweenStates.{table_writes, states_after, between_states}
 use Rattle.narrow_plans.specs.Unaffected.{has_view, is_unaffected}
 use Rattle.narrow_plans.specs.Laws.{IsUnaffected, IsOfBoth, DecideAlike, AllDecideAlike}
@@ -31,35 +32,38 @@ use Rattle.narrow_plans.proofs.ViewKinds.{views_decide}
 
 -- ---- registers with the same last values decide alike
 
-bound_word : (r : Registers) (m : ℕ) → r.shape.mdcfg ≡ 0 → bound_of r m ≡ bits_of 0 16 (word_at r (512 + m))
+bound_word : (r : Registers) (m : ℕ) → r.shape.mdcfg ≡ 0 → bound_of r m ≡ bits_of 0 16 (reg r (Mdcfg m))
 bound_word r m z = rw z refl
 
-pub standing_alike : (h : Shape) (ps qs : List RegPair) (r q : Registers) → h.mdcfg ≡ 0 → Stands h ps r → Stands h qs q → SameValues ps qs → (a : Access) → decision r a ≡ decision q a
+pub standing_alike : (h : Shape) (ps qs : List RegPair) (r q : Registers) → h.mdcfg ≡ 0 → Stands h ps r → Stands h qs q → SameValues ps qs
+    → (a : Access) → decision r a ≡ decision q a
 standing_alike h ps qs r q z c d same =
     decide_alike r q
     (record {
       shape = c.unlocked.shape ∙ sym d.unlocked.shape;
-      enabled = c.enabled ∙ (ap (λ n. n == 1) (same 2 (λ e. absurd (omega arith)) (λ e. absurd (omega arith))) ∙ sym d.enabled);
-      prio = c.prio ∙ (same 4 (λ e. absurd (omega arith)) (λ e. absurd (omega arith)) ∙ sym d.prio);
+      enabled = c.enabled ∙ (ap (λ n. n == 1) (same (index_of Hwcfg0) (λ e. absurd (omega arith)) (λ e. absurd (omega arith))) ∙ sym d.enabled);
+      prio = c.prio ∙ (same (index_of Hwcfg2) (λ e. absurd (omega arith)) (λ e. absurd (omega arith)) ∙ sym d.prio);
       bounds = λ m.
           bound_word r m (ap (λ (s : Shape). s.mdcfg) c.unlocked.shape ∙ z)
-          ∙ (ap (bits_of 0 16) (table (512 + m) (omega arith)) ∙ sym (bound_word q m (ap (λ (s : Shape). s.mdcfg) d.unlocked.shape ∙ z)));
+          ∙ (ap (bits_of 0 16) (table (index_of (Mdcfg m)) (omega arith)) ∙ sym (bound_word q m (ap (λ (s : Shape). s.mdcfg) d.unlocked.shape ∙ z)));
       tables = table;
     })
   where
-    table : (i : ℕ) → 512 ≤ i → word_at r i ≡ word_at q i
+    table : (i : ℕ) → index_of (Mdcfg 0) ≤ i → word_at r i ≡ word_at q i
     table i l = c.tables i l ∙ (same i (λ e. absurd (omega arith)) (λ e. absurd (omega arith)) ∙ sym (d.tables i l))
 
 -- ---- lists of states
 
 -- what holds of all states holds of that after a part of the writes
-state_of : (P : Registers → Type 0) (r : Registers) (part rest : List RegPair) → AllByRecursion P (states_after r (part ++ rest)) → P (after_writes r part)
+state_of : (P : Registers → Type 0) (r : Registers) (part rest : List RegPair) → AllByRecursion P (states_after r (part ++ rest))
+    → P (after_writes r part)
 state_of P r [] [] all = all.0
 state_of P r [] (w ∷ rest) all = all.0
 state_of P r (w ∷ part) rest all = state_of P (guarded_write r w) part rest all.1
 
 -- and the other way around
-states_each : (P : Registers → Type 0) (r : Registers) (ws : List RegPair) → ((part rest : List RegPair) → ws ≡ part ++ rest → P (after_writes r part)) → AllByRecursion P (states_after r ws)
+states_each : (P : Registers → Type 0) (r : Registers) (ws : List RegPair)
+    → ((part rest : List RegPair) → ws ≡ part ++ rest → P (after_writes r part)) → AllByRecursion P (states_after r ws)
 states_each P r [] each = (each [] [] refl, tt)
 states_each P r (w ∷ ws) each = (each [] (w ∷ ws) refl, states_each P (guarded_write r w) ws (λ part rest e. each (w ∷ part) rest (ap (λ vs. w ∷ vs) e)))
 
@@ -69,42 +73,10 @@ after_both r (p ∷ ps) qs = after_both (guarded_write r p) ps qs
 
 -- ---- equal views
 
-same_truth : (a b : Bool) → beq a b ≡ true → a ≡ b
-same_truth true true e = refl
-same_truth false false e = refl
-same_truth true false e = absurd (let n : false ≡ true = e in cc)
-same_truth false true e = absurd (let n : false ≡ true = e in cc)
-
-abbrev entry_of : Bool → ℕ → ℕ → Bool → Bool → Bool → EntryView
-entry_of priority from to read write fetch = record { priority = priority; from = from; to = to; read = read; write = write; fetch = fetch }
-
-same_entries : (a b : EntryView) → same_entry a b ≡ true → a ≡ b
-same_entries a b e =
-    let one = and_parts (beq a.priority b.priority) _ e in
-    let two = and_parts (a.from == b.from) _ one.1 in
-    let three = and_parts (a.to == b.to) _ two.1 in
-    let four = and_parts (beq a.read b.read) _ three.1 in
-    let five = and_parts (beq a.write b.write) _ four.1 in
-    ap (λ p. entry_of p a.from a.to a.read a.write a.fetch) (same_truth a.priority b.priority one.0)
-    ∙ ap (λ n. entry_of b.priority n a.to a.read a.write a.fetch) (eqb-true a.from b.from two.0)
-    ∙ ap (λ n. entry_of b.priority b.from n a.read a.write a.fetch) (eqb-true a.to b.to three.0)
-    ∙ ap (λ p. entry_of b.priority b.from b.to p a.write a.fetch) (same_truth a.read b.read four.0)
-    ∙ ap (λ p. entry_of b.priority b.from b.to b.read p a.fetch) (same_truth a.write b.write five.0)
-    ∙ ap (λ p. entry_of b.priority b.from b.to b.read b.write p) (same_truth a.fetch b.fetch five.1)
-
-same_views : (xs ys : List EntryView) → same_view xs ys ≡ true → xs ≡ ys
-same_views [] [] e = refl
-same_views [] (y ∷ ys) e = absurd (let n : false ≡ true = e in cc)
-same_views (x ∷ xs) [] e = absurd (let n : false ≡ true = e in cc)
-same_views (x ∷ xs) (y ∷ ys) e =
-    let parts = and_parts (same_entry x y) (same_view xs ys) e in
-    let head = same_entries x y parts.0 in
-    let tail = same_views xs ys parts.1 in
-    cc
-
-all_see : (s : ℕ) (view : List EntryView) (rs : List Registers) → list_all (has_view s view) rs ≡ true → AllByRecursion (λ r. view ≡ view_of r s) rs
+all_see : (s : ℕ) (view : List EntryView) (rs : List Registers) → list_all (has_view s view) rs ≡ true
+    → AllByRecursion (λ r. view ≡ view_of r s) rs
 all_see s view [] e = tt
-all_see s view (r ∷ rs) e = let parts = and_parts (has_view s view r) (list_all (has_view s view) rs) e in (same_views view (view_of r s) parts.0, all_see s view rs parts.1)
+all_see s view (r ∷ rs) e = let parts = and_parts (has_view s view r) (list_all (has_view s view) rs) e in (true_view view (view_of r s) parts.0, all_see s view rs parts.1)
 
 -- ---- the states between
 
@@ -139,11 +111,12 @@ module _ (old new : PolicyOf) (b : AreBetween old new) where
   enabled : (part rest : List RegPair) → tables ≡ part ++ rest → is_enabled (state part) ≡ true
   enabled part rest e =
       let c = state_stands part rest e in
-      let nots = all_parts (λ (w : RegPair). w.index ≡ 2 → ⊥) part rest (subst (AreNot 2) e (rewrites_not old.shape tables 2 (omega arith) (λ e. absurd (omega arith)) rewrites.each)) in
-      c.enabled ∙ ap (λ n. n == 1) (value_append 0 (image_of old).writes part 2 ∙ (value_kept _ 2 part nots.0 ∙ image_enables old))
+      let nots = all_parts (λ (w : RegPair). w.index ≡ index_of Hwcfg0 → ⊥) part rest (subst (AreNot (index_of Hwcfg0)) e (rewrites_not old.shape tables (index_of Hwcfg0) (omega arith) (λ e. absurd (omega arith)) rewrites.each)) in
+      c.enabled ∙ ap (λ n. n == 1) (value_append 0 (image_of old).writes part (index_of Hwcfg0) ∙ (value_kept _ (index_of Hwcfg0) part nots.0 ∙ image_enables old))
 
   module _ (a : Access) (valid : IsValidAccess a) (calm : IsUnaffected old new a.rrid) where
-    views : (part rest : List RegPair) → tables ≡ part ++ rest → view_of (registers_after (image_of old)) a.rrid ≡ view_of (state part) a.rrid
+    views : (part rest : List RegPair) → tables ≡ part ++ rest
+        → view_of (registers_after (image_of old)) a.rrid ≡ view_of (state part) a.rrid
     unfolding is_unaffected between_states table_writes
     views part rest e =
         let all = all_see a.rrid (view_of (registers_after (image_of old)) a.rrid) (states_after (registers_after (image_of old)) tables) calm.1 in

@@ -6,19 +6,19 @@ use Rattle.std.proofs.lemmas.List.{get_or-set_other, get_or-set_same, set-get_or
 use Rattle.std.proofs.lemmas.Bool.{ltb-true}
 use Rattle.std.proofs.lemmas.Bool.Decides.{nat_tests}
 use Rattle.unit_core.proofs.Sims.{written_shape}
+use Rattle.event_words.specs.declared.address_mode.AddressMode.{AddressMode}
+use Rattle.event_words.specs.declared.address_mode.AddressMode.TheVariants.{Off, Tor, Na4, Napot}
 use Rattle.event_words.specs.declared.shape.Shape.{Shape}
 use Rattle.event_words.specs.declared.access.Kind.{Kind}
 use Rattle.event_words.specs.declared.access.Kind.TheVariants.{Read, Write, Fetch}
 use Rattle.event_words.specs.declared.register.Register.{Register}
-use Rattle.event_words.specs.declared.register.Register.TheVariants.{Hwcfg0, Mdcfg, EntryAddr, EntryAddrh, EntryCfg}
+use Rattle.event_words.specs.declared.register.Register.TheVariants.{Hwcfg0, Mdcfg, EntryAddr, EntryAddrh, EntryCfg, Hwcfg2, SrcmdEn, SrcmdEnh, SrcmdR, SrcmdRh, SrcmdW, SrcmdWh, SrcmdPerm, SrcmdPermh}
 use Rattle.event_words.specs.Valid.{IsValidShape}
 use Rattle.event_words.specs.Word.{kind_code}
 use Rattle.event_words.specs.Registers.{Registers, word_at, bits_of, has_bit, has_pair_bit, register_at, index_of, set_word, write_at, written}
 use Rattle.event_words.specs.Guards.{reg}
 use Rattle.event_words.specs.WellFormed.{IsWellFormed}
 use Rattle.event_words.proofs.Indexes.{register_at-tells}
-use Rattle.event_words.specs.declared.address_mode.AddressMode.{AddressMode}
-use Rattle.event_words.specs.declared.address_mode.AddressMode.TheVariants.{Off, Tor, Na4, Napot}
 use Rattle.event_words.specs.Entries.{word_address, mode_at, mode_of, bottom_of}
 use Rattle.event_words.specs.Domains.{bound_of, is_bounded_by, owner_of, is_in_table, is_enabled_in, is_readable_in, is_writable_in, has_first_permission, has_second_permission, is_associated, by_kind, domain_grants}
 use Rattle.event_words.specs.Decisions.{owned_by, is_entry_of, entry_grants, prio_count}
@@ -31,14 +31,16 @@ use Rattle.narrow_plans.proofs.Walks.{unseen}
 
 -- ---- searches that test alike
 
-find_same : (p q : ℕ → Bool) (a n : ℕ) → ((m : ℕ) → a ≤ m → m < a + n → p m ≡ q m) → find p (range_with_len a n) ≡ find q (range_with_len a n)
+find_same : (p q : ℕ → Bool) (a n : ℕ) → ((m : ℕ) → a ≤ m → m < a + n → p m ≡ q m)
+    → find p (range_with_len a n) ≡ find q (range_with_len a n)
 find_same p q a zero same = refl
 find_same p q a (suc n) same =
     let here = same a (omega arith) (omega arith) in
     let rest = find_same p q (a + 1) n (λ m x y. same m (omega arith) (omega arith)) in
     rw (here, rest) refl
 
-seen_same_from : (f g : ℕ → Option EntryView) (a n : ℕ) → ((j : ℕ) → a ≤ j → j < a + n → f j ≡ g j) → filter_map f (range_with_len a n) ≡ filter_map g (range_with_len a n)
+seen_same_from : (f g : ℕ → Option EntryView) (a n : ℕ) → ((j : ℕ) → a ≤ j → j < a + n → f j ≡ g j)
+    → filter_map f (range_with_len a n) ≡ filter_map g (range_with_len a n)
 seen_same_from f g a zero same = refl
 seen_same_from f g a (suc n) same =
     let here = same a (omega arith) (omega arith) in
@@ -55,38 +57,39 @@ module _ (h : Shape) (v w : List ℕ) (i index s : ℕ) (valid : IsValidShape h)
   abbrev S : Registers
   S = record { shape = h; words = w }
 
-  low : (k : ℕ) → k < 2048 → word_at R k ≡ word_at S k
+  low : (k : ℕ) → k < index_of (EntryAddr 0) → word_at R k ≡ word_at S k
   low k l = same k (λ e. absurd (omega (arith, part.0)))
 
   -- ---- owners and associations
 
   bound : (m : ℕ) → m < h.domains → bound_of R m ≡ bound_of S m
   bound m l =
-      ap (λ n. if h.mdcfg == 0 then bits_of 0 16 n else (m + 1) * (bits_of 17 7 (reg R Hwcfg0) + 1)) (low (512 + m) (omega (arith, valid.domains.1)))
-      ∙ ap (λ n. if h.mdcfg == 0 then bits_of 0 16 (reg S (Mdcfg m)) else (m + 1) * (bits_of 17 7 n + 1)) (low 2 (omega arith))
+      ap (λ n. if h.mdcfg == 0 then bits_of 0 16 n else (m + 1) * (bits_of 17 7 (reg R Hwcfg0) + 1)) (low (index_of (Mdcfg m)) (omega (arith, valid.domains.1)))
+      ∙ ap (λ n. if h.mdcfg == 0 then bits_of 0 16 (reg S (Mdcfg m)) else (m + 1) * (bits_of 17 7 n + 1)) (low (index_of Hwcfg0) (omega arith))
 
   owner : (j : ℕ) → owner_of R j ≡ owner_of S j
   owner j = find_same (is_bounded_by R j) (is_bounded_by S j) 0 h.domains (λ m x y. ap (λ n. ltb j n) (bound m (omega arith)))
 
-  pair_bit : (k l n : ℕ) → k < 2048 → l < 2048 → has_pair_bit (word_at R k) (word_at R l) n ≡ has_pair_bit (word_at S k) (word_at S l) n
+  pair_bit : (k l n : ℕ) → k < index_of (EntryAddr 0) → l < index_of (EntryAddr 0)
+      → has_pair_bit (word_at R k) (word_at R l) n ≡ has_pair_bit (word_at S k) (word_at S l) n
   pair_bit k l n x y =
       ap (λ a. has_pair_bit a (word_at R l) n) (low k x)
       ∙ ap (λ b. has_pair_bit (word_at S k) b n) (low l y)
 
   first : (m : ℕ) → m < h.domains → has_first_permission R s m ≡ has_first_permission S s m
-  first m l = pair_bit (1024 + 8 * m) (1025 + 8 * m) (2 * s) (omega (arith, valid.domains.1)) (omega (arith, valid.domains.1))
+  first m l = pair_bit (index_of (SrcmdPerm m)) (index_of (SrcmdPermh m)) (2 * s) (omega (arith, valid.domains.1)) (omega (arith, valid.domains.1))
 
   second : (m : ℕ) → m < h.domains → has_second_permission R s m ≡ has_second_permission S s m
-  second m l = pair_bit (1024 + 8 * m) (1025 + 8 * m) (2 * s + 1) (omega (arith, valid.domains.1)) (omega (arith, valid.domains.1))
+  second m l = pair_bit (index_of (SrcmdPerm m)) (index_of (SrcmdPermh m)) (2 * s + 1) (omega (arith, valid.domains.1)) (omega (arith, valid.domains.1))
 
   enabled : (m : ℕ) → s < h.rrids → is_enabled_in R s m ≡ is_enabled_in S s m
-  enabled m l = pair_bit (1024 + 8 * s) (1025 + 8 * s) (m + 1) (omega (arith, valid.rrids.1)) (omega (arith, valid.rrids.1))
+  enabled m l = pair_bit (index_of (SrcmdEn s)) (index_of (SrcmdEnh s)) (m + 1) (omega (arith, valid.rrids.1)) (omega (arith, valid.rrids.1))
 
   readable : (m : ℕ) → s < h.rrids → is_readable_in R s m ≡ is_readable_in S s m
-  readable m l = pair_bit (1026 + 8 * s) (1027 + 8 * s) (m + 1) (omega (arith, valid.rrids.1)) (omega (arith, valid.rrids.1))
+  readable m l = pair_bit (index_of (SrcmdR s)) (index_of (SrcmdRh s)) (m + 1) (omega (arith, valid.rrids.1)) (omega (arith, valid.rrids.1))
 
   writable : (m : ℕ) → s < h.rrids → is_writable_in R s m ≡ is_writable_in S s m
-  writable m l = pair_bit (1028 + 8 * s) (1029 + 8 * s) (m + 1) (omega (arith, valid.rrids.1)) (omega (arith, valid.rrids.1))
+  writable m l = pair_bit (index_of (SrcmdW s)) (index_of (SrcmdWh s)) (m + 1) (omega (arith, valid.rrids.1)) (omega (arith, valid.rrids.1))
 
   in_table : (m : ℕ) → s < h.rrids → m < h.domains → is_in_table R s m ≡ is_in_table S s m
   in_table m l k = rw (enabled m l, first m k, second m k) refl
@@ -113,19 +116,20 @@ module _ (h : Shape) (v w : List ℕ) (i index s : ℕ) (valid : IsValidShape h)
   granted : (kind : Kind) (m : ℕ) → s < h.rrids → m < h.domains → domain_grants R s m kind ≡ domain_grants S s m kind
   granted kind m l k = rw (by_kinds kind _ _ _ _ (first m k) (second m k), by_kinds kind _ _ _ _ (readable m l) (writable m l)) refl
 
-  granted_by : (kind : Kind) (o : Option ℕ) → s < h.rrids → ((m : ℕ) → o ≡ Some m → m < h.domains) → owned_by (λ m. domain_grants R s m kind) o ≡ owned_by (λ m. domain_grants S s m kind) o
+  granted_by : (kind : Kind) (o : Option ℕ) → s < h.rrids → ((m : ℕ) → o ≡ Some m → m < h.domains)
+      → owned_by (λ m. domain_grants R s m kind) o ≡ owned_by (λ m. domain_grants S s m kind) o
   granted_by kind None l small = refl
   granted_by kind (Some m) l small = granted kind m l (small m refl)
 
   -- ---- another entry
 
   other_word : (j : ℕ) → j ≢ i → reg R (EntryCfg j) ≡ reg S (EntryCfg j)
-  other_word j ne = same (2050 + 4 * j) (λ e. ne (omega (arith, part.0, part.1)))
+  other_word j ne = same (index_of (EntryCfg j)) (λ e. ne (omega (arith, part.0, part.1)))
 
   address : (j : ℕ) → j ≢ i → word_address R j ≡ word_address S j
   address j ne =
-      ap (λ n. n * 2 ^ 32 + reg R (EntryAddr j)) (same (2049 + 4 * j) (λ e. ne (omega (arith, part.0, part.1))))
-      ∙ ap (λ n. reg S (EntryAddrh j) * 2 ^ 32 + n) (same (2048 + 4 * j) (λ e. ne (omega (arith, part.0, part.1))))
+      ap (λ n. n * 2 ^ 32 + reg R (EntryAddr j)) (same (index_of (EntryAddrh j)) (λ e. ne (omega (arith, part.0, part.1))))
+      ∙ ap (λ n. reg S (EntryAddrh j) * 2 ^ 32 + n) (same (index_of (EntryAddr j)) (λ e. ne (omega (arith, part.0, part.1))))
 
   from_one : (j : ℕ) → (j == 0) ≡ false → j - 1 ≡ i → j ≡ i + 1
   from_one zero t e = absurd (cc)
@@ -153,7 +157,7 @@ module _ (h : Shape) (v w : List ℕ) (i index s : ℕ) (valid : IsValidShape h)
 
   viewed : (j : ℕ) (bytes : ByteRange) → j ≢ i → s < h.rrids → entry_view R s j bytes ≡ entry_view S s j bytes
   viewed j bytes ne l =
-      let count : prio_count R ≡ prio_count S = ap (bits_of 0 16) (low 4 (omega arith)) in
+      let count : prio_count R ≡ prio_count S = ap (bits_of 0 16) (low (index_of Hwcfg2) (omega arith)) in
       rw (count, grants Read j ne l, grants Write j ne l, grants Fetch j ne l) refl
 
   known : (j : ℕ) → is_entry_of R s j ≡ true → s < h.rrids
@@ -203,11 +207,13 @@ set_back r index word h = by_test (ltb index (length r.words)) _
     set_past (w ∷ ws) zero x l = absurd (omega arith)
     set_past (w ∷ ws) (suc k) x l = ap (λ vs. w ∷ vs) (set_past ws k x (omega arith))
 
-words_stay : (before : Registers) (index value keep : ℕ) (o : Option Register) → SameBut index (write_at before index value keep o).words before.words
+words_stay : (before : Registers) (index value keep : ℕ) (o : Option Register)
+    → SameBut index (write_at before index value keep o).words before.words
 words_stay before index value keep None k ne = refl
 words_stay before index value keep (Some q) k ne = get_or-set_other before.words index k _ 0 ne
 
-pub leaves_view : (r : Registers) (i index s : ℕ) → IsValidShape r.shape → IsEntryPart i index → is_own r s i ≡ false → is_own r s (i + 1) ≡ false → LeavesView r index s
+pub leaves_view : (r : Registers) (i index s : ℕ) → IsValidShape r.shape → IsEntryPart i index → is_own r s i ≡ false
+    → is_own r s (i + 1) ≡ false → LeavesView r index s
 leaves_view r i index s valid part here next before value keep e =
     let o : Option Register = register_at before.shape index in
     let same : SameBut index r.words before.words = λ k ne. ap (λ (q : Registers). get_or q.words k 0) e ∙ words_stay before index value keep o k ne in
@@ -217,16 +223,19 @@ leaves_view r i index s valid part here next before value keep e =
 
 -- ---- registers of entries
 
-pub part_of : (h : Shape) (index : ℕ) (q : Register) (i : ℕ) → register_at h index ≡ Some q → IsEntryPart i (index_of q) → IsEntryPart i index
+pub part_of : (h : Shape) (index : ℕ) (q : Register) (i : ℕ) → register_at h index ≡ Some q → IsEntryPart i (index_of q)
+    → IsEntryPart i index
 part_of h index q i e part = subst (IsEntryPart i) (register_at-tells h index q e).0 part
 
-pub leaves_same : (r : Registers) (i index s : ℕ) → IsWellFormed r → IsEntryPart i index → is_own r s i ≡ false → is_own r s (i + 1) ≡ false → LeavesView r index s
+pub leaves_same : (r : Registers) (i index s : ℕ) → IsWellFormed r → IsEntryPart i index → is_own r s i ≡ false
+    → is_own r s (i + 1) ≡ false → LeavesView r index s
 leaves_same r i index s formed = leaves_view r i index s formed.shape
 
 -- A write after which the register is as it was changes nothing.
 pub word_stays : (r q : Registers) (index value keep : ℕ) → q ≡ written r index value keep → word_at q index ≡ word_at r index → q ≡ r
 word_stays r q index value keep e same = e ∙ by_register (register_at r.shape index) (ap (λ (x : Registers). word_at x index) (sym e) ∙ same)
   where
-    by_register : (o : Option Register) → word_at (write_at r index value keep o) index ≡ word_at r index → write_at r index value keep o ≡ r
+    by_register : (o : Option Register) → word_at (write_at r index value keep o) index ≡ word_at r index
+        → write_at r index value keep o ≡ r
     by_register None h = refl
     by_register (Some g) h = set_back r index _ h

@@ -29,13 +29,16 @@ longer (e ∷ es) (f ∷ fs) ne = rw (sym (longer es fs (λ q. ne (omega (arith,
     and_false true = refl
     and_false false = refl
 
-from_here : (es fs : List EntryView) (i : ℕ) (d c : EntryView) → i < length es → i < length fs → same_view (drop i es) (drop i fs) ≡ (same_entry (get_or es i d) (get_or fs i c) && same_view (drop (i + 1) es) (drop (i + 1) fs))
+from_here : (es fs : List EntryView) (i : ℕ) (d c : EntryView) → i < length es → i < length fs
+    → same_view (drop i es) (drop i fs) ≡ (same_entry (get_or es i d) (get_or fs i c) && same_view (drop (i + 1) es) (drop (i + 1) fs))
 from_here es fs i d c l k = rw (drop-cons es i d l, drop-cons fs i c k, add-one i) refl
 
-pub differs_at : (es fs : List EntryView) (i : ℕ) (d c : EntryView) → i < length es → i < length fs → same_entry (get_or es i d) (get_or fs i c) ≡ false → false ≡ same_view (drop i es) (drop i fs)
+pub differs_at : (es fs : List EntryView) (i : ℕ) (d c : EntryView) → i < length es → i < length fs
+    → same_entry (get_or es i d) (get_or fs i c) ≡ false → false ≡ same_view (drop i es) (drop i fs)
 differs_at es fs i d c l k t = sym (from_here es fs i d c l k ∙ ap (λ b. b && same_view (drop (i + 1) es) (drop (i + 1) fs)) t)
 
-pub agrees_at : (es fs : List EntryView) (i : ℕ) (d c : EntryView) → i < length es → i < length fs → same_entry (get_or es i d) (get_or fs i c) ≡ true → same_view (drop (i + 1) es) (drop (i + 1) fs) ≡ same_view (drop i es) (drop i fs)
+pub agrees_at : (es fs : List EntryView) (i : ℕ) (d c : EntryView) → i < length es → i < length fs
+    → same_entry (get_or es i d) (get_or fs i c) ≡ true → same_view (drop (i + 1) es) (drop (i + 1) fs) ≡ same_view (drop i es) (drop i fs)
 agrees_at es fs i d c l k t = sym (from_here es fs i d c l k ∙ ap (λ b. b && same_view (drop (i + 1) es) (drop (i + 1) fs)) t)
 
 -- ---- views that the test finds equal are equal
@@ -56,7 +59,8 @@ both false b t = absurd (cc)
 abbrev entry_of : Bool → ℕ → ℕ → Bool → Bool → Bool → EntryView
 entry_of priority from to read write fetch = record { priority = priority; from = from; to = to; read = read; write = write; fetch = fetch }
 
-same_fields : (p q : Bool) (m n k l : ℕ) (a b c d e f : Bool) → p ≡ q → m ≡ n → k ≡ l → a ≡ b → c ≡ d → e ≡ f → entry_of p m k a c e ≡ entry_of q n l b d f
+same_fields : (p q : Bool) (m n k l : ℕ) (a b c d e f : Bool) → p ≡ q → m ≡ n → k ≡ l → a ≡ b → c ≡ d → e ≡ f
+    → entry_of p m k a c e ≡ entry_of q n l b d f
 same_fields p q m n k l a b c d e f h1 h2 h3 h4 h5 h6 = rw (h1, h2, h3, h4, h5, h6) refl
 
 true_entry : (e f : EntryView) → same_entry e f ≡ true → e ≡ f

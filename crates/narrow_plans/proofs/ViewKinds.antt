@@ -93,12 +93,14 @@ empty r a j valid none = record {
   covering = rw (none_all (is_byte_of r j) a.addr a.len valid.shortest none, and-false (is_entry_of r a.rrid j)) (and-false (not (ltb j (prio_count r))));
 }
 
-grants_kind : (r : Registers) (s j : ℕ) (kind : Kind) (bytes : ByteRange) → entry_grants r s kind j ≡ granted_by kind (entry_view r s j bytes)
+grants_kind : (r : Registers) (s j : ℕ) (kind : Kind) (bytes : ByteRange)
+    → entry_grants r s kind j ≡ granted_by kind (entry_view r s j bytes)
 grants_kind r s j Read bytes = refl
 grants_kind r s j Write bytes = refl
 grants_kind r s j Fetch bytes = refl
 
-seen : (r : Registers) (a : Access) (j : ℕ) (bytes : ByteRange) → is_entry_of r a.rrid j ≡ true → ((x : ℕ) → is_byte_of r j x ≡ is_between bytes.from bytes.to x) → Sees r a j (entry_view r a.rrid j bytes)
+seen : (r : Registers) (a : Access) (j : ℕ) (bytes : ByteRange) → is_entry_of r a.rrid j ≡ true
+    → ((x : ℕ) → is_byte_of r j x ≡ is_between bytes.from bytes.to x) → Sees r a j (entry_view r a.rrid j bytes)
 seen r a j bytes t same = record {
   touching = rw t (ap (λ (p : ℕ → Bool). ltb j (prio_count r) && list_any p (bytes_of a)) (λ i x. same x i));
   covering = rw t (ap (λ (p : ℕ → Bool). not (ltb j (prio_count r)) && list_all p (bytes_of a)) (λ i x. same x i));
@@ -106,7 +108,8 @@ seen r a j bytes t same = record {
   grants = grants_kind r a.rrid j a.kind bytes;
 }
 
-with_range : (r : Registers) (a : Access) (j : ℕ) (o : Option ByteRange) → IsValidAccess a → is_entry_of r a.rrid j ≡ true → HoldsBytes (is_byte_of r j) o → Shows r a j (option_map (entry_view r a.rrid j) o)
+with_range : (r : Registers) (a : Access) (j : ℕ) (o : Option ByteRange) → IsValidAccess a → is_entry_of r a.rrid j ≡ true
+    → HoldsBytes (is_byte_of r j) o → Shows r a j (option_map (entry_view r a.rrid j) o)
 with_range r a j None valid t h = empty r a j valid h
 with_range r a j (Some bytes) valid t h = seen r a j bytes t h.1
 
@@ -117,7 +120,9 @@ shows r a j valid = by_test (is_entry_of r a.rrid j) _
 
 -- ---- along the list of entries
 
-taken : (r : Registers) (a : Access) (j : ℕ) (c g : Bool) → kind_of (if not c then violation 4 j else (if g then Allowed else illegal r a j (j ∷ []))) ≡ (if not c then 4 else (if g then 0 else 1 + kind_code a.kind))
+taken : (r : Registers) (a : Access) (j : ℕ) (c g : Bool)
+    → kind_of (if not c then violation 4 j else (if g then Allowed else illegal r a j (j ∷ [])))
+    ≡ (if not c then 4 else (if g then 0 else 1 + kind_code a.kind))
 taken r a j false g = refl
 taken r a j true true = refl
 taken r a j true false = refl
@@ -128,20 +133,26 @@ first_kind r a others [] valid e = e
 first_kind r a others (j ∷ js) valid e = step (seen_entry r a.rrid j) (shows r a j valid) (first_kind r a others js valid e)
   where
     step : (o : Option EntryView) → Shows r a j o
-        → kind_of (decide_by_hit r a (find (is_touching r a) js)) ≡ kind_of_first a others (find (hits a) (filter_map (seen_entry r a.rrid) js))
-        → kind_of (decide_by_hit r a (find (is_touching r a) (j ∷ js))) ≡ kind_of_first a others (find (hits a) (cons_option o (filter_map (seen_entry r a.rrid) js)))
+        → kind_of (decide_by_hit r a (find (is_touching r a) js))
+        ≡ kind_of_first a others (find (hits a) (filter_map (seen_entry r a.rrid) js))
+        → kind_of (decide_by_hit r a (find (is_touching r a) (j ∷ js)))
+        ≡ kind_of_first a others (find (hits a) (cons_option o (filter_map (seen_entry r a.rrid) js)))
     step None h ih = rw h.touching ih
     step (Some e) h ih = by_test (hits a e) _
         (λ t. rw (h.touching, t, h.covers, h.grants) (taken r a j (covered_by a e) (granted_by a.kind e)))
         (λ f. rw (h.touching, f) ih)
 
-rest_grants : (r : Registers) (a : Access) (js : List ℕ) → IsValidAccess a → map (entry_grants r a.rrid a.kind) (filter (is_covering r a) js) ≡ map (granted_by a.kind) (filter (fits a) (filter_map (seen_entry r a.rrid) js))
+rest_grants : (r : Registers) (a : Access) (js : List ℕ) → IsValidAccess a
+    → map (entry_grants r a.rrid a.kind) (filter (is_covering r a) js)
+    ≡ map (granted_by a.kind) (filter (fits a) (filter_map (seen_entry r a.rrid) js))
 rest_grants r a [] valid = refl
 rest_grants r a (j ∷ js) valid = step (seen_entry r a.rrid j) (shows r a j valid) (rest_grants r a js valid)
   where
     step : (o : Option EntryView) → Shows r a j o
-        → map (entry_grants r a.rrid a.kind) (filter (is_covering r a) js) ≡ map (granted_by a.kind) (filter (fits a) (filter_map (seen_entry r a.rrid) js))
-        → map (entry_grants r a.rrid a.kind) (filter (is_covering r a) (j ∷ js)) ≡ map (granted_by a.kind) (filter (fits a) (cons_option o (filter_map (seen_entry r a.rrid) js)))
+        → map (entry_grants r a.rrid a.kind) (filter (is_covering r a) js)
+        ≡ map (granted_by a.kind) (filter (fits a) (filter_map (seen_entry r a.rrid) js))
+        → map (entry_grants r a.rrid a.kind) (filter (is_covering r a) (j ∷ js))
+        ≡ map (granted_by a.kind) (filter (fits a) (cons_option o (filter_map (seen_entry r a.rrid) js)))
     step None h ih = rw h.covering ih
     step (Some e) h ih = by_test (fits a e) _
         (λ t. rw (h.covering, t, h.grants) (ap (λ bs. granted_by a.kind e ∷ bs) ih))
@@ -153,7 +164,8 @@ any_map : (p : ℕ → Bool) (js : List ℕ) → list_any p js ≡ list_any (λ 
 any_map p [] = refl
 any_map p (j ∷ js) = ap (λ b. p j || b) (any_map p js)
 
-grants_decide : (r : Registers) (a : Access) (js : List ℕ) → kind_of (by_covering r a js) ≡ kind_of_grants a (map (entry_grants r a.rrid a.kind) js)
+grants_decide : (r : Registers) (a : Access) (js : List ℕ)
+    → kind_of (by_covering r a js) ≡ kind_of_grants a (map (entry_grants r a.rrid a.kind) js)
 grants_decide r a [] = refl
 grants_decide r a (j ∷ js) =
     let q = entry_grants r a.rrid a.kind in
@@ -162,7 +174,8 @@ grants_decide r a (j ∷ js) =
     (λ t. let u : list_any (λ x. x) (map q (j ∷ js)) ≡ true = sym any ∙ t in rw (t, u) refl)
     (λ f. let u : list_any (λ x. x) (map q (j ∷ js)) ≡ false = sym any ∙ f in rw (f, u) refl)
 
-known_kind : (r : Registers) (a : Access) → IsValidAccess a → kind_of (decide_by_hit r a (find (is_touching r a) (entries r))) ≡ kind_by_view (view_of r a.rrid) a
+known_kind : (r : Registers) (a : Access) → IsValidAccess a
+    → kind_of (decide_by_hit r a (find (is_touching r a) (entries r))) ≡ kind_by_view (view_of r a.rrid) a
 unfolding view_of
 known_kind r a valid =
     first_kind r a _ (entries r) valid (grants_decide r a (covering r a) ∙ ap (kind_of_grants a) (rest_grants r a (entries r) valid))
@@ -170,7 +183,8 @@ known_kind r a valid =
 abbrev kind_for : Bool → Bool → ℕ → ℕ
 kind_for enabled known kind = if not enabled then 0 else (if not known then 6 else kind)
 
-kind_is : (r : Registers) (a : Access) → IsValidAccess a → kind_of (decision r a) ≡ kind_for (is_enabled r) (is_known r a.rrid) (kind_by_view (view_of r a.rrid) a)
+kind_is : (r : Registers) (a : Access) → IsValidAccess a
+    → kind_of (decision r a) ≡ kind_for (is_enabled r) (is_known r a.rrid) (kind_by_view (view_of r a.rrid) a)
 kind_is r a valid = by_test (is_enabled r) _
     (λ t. by_test (is_known r a.rrid) _
     (λ k. rw (t, k) (known_kind r a valid))

@@ -34,7 +34,8 @@ below : (from to x : ℕ) → is_between from to x ≡ true → x < to
 below from to x t = grind (arith, nat_tests)
 
 -- a range whose bytes are another's lies in it
-lies_in : (a b : ByteRange) → a.from < a.to → ((x : ℕ) → is_between a.from a.to x ≡ is_between b.from b.to x) → (b.from ≤ a.from) × (a.to ≤ b.to)
+lies_in : (a b : ByteRange) → a.from < a.to → ((x : ℕ) → is_between a.from a.to x ≡ is_between b.from b.to x)
+    → (b.from ≤ a.from) × (a.to ≤ b.to)
 lies_in a b some same =
     let first = at_least b.from b.to a.from (sym (same a.from) ∙ inside a.from a.to a.from (omega arith) some) in
     let last = below b.from b.to (a.to - 1) (sym (same (a.to - 1)) ∙ inside a.from a.to (a.to - 1) (omega arith) (omega arith)) in
@@ -63,7 +64,8 @@ range_found r j o h = one_range (is_byte_of r j) (entry_range r j) o (holds_rang
 own : (r : Registers) (s d j : ℕ) → owner_of r j ≡ Some d → is_associated r s d ≡ true → is_entry_of r s j ≡ true
 own r s d j e t = rw (e, t) refl
 
-pub seen_own : (r : Registers) (s d j : ℕ) (o : Option ByteRange) → owner_of r j ≡ Some d → is_associated r s d ≡ true → HoldsBytes (is_byte_of r j) o → seen_entry r s j ≡ option_map (entry_view r s j) o
+pub seen_own : (r : Registers) (s d j : ℕ) (o : Option ByteRange) → owner_of r j ≡ Some d → is_associated r s d ≡ true
+    → HoldsBytes (is_byte_of r j) o → seen_entry r s j ≡ option_map (entry_view r s j) o
 seen_own r s d j o e t h = rw (own r s d j e t, range_found r j o h) refl
 
 pub unseen : (r : Registers) (s j : ℕ) → is_entry_of r s j ≡ false → seen_entry r s j ≡ None
@@ -81,7 +83,8 @@ seen_taken r s n e t = rw t at (seen_more r s n)
 pub seen_left : (r : Registers) (s n : ℕ) → seen_entry r s n ≡ None → seen_below r s (n + 1) ≡ seen_below r s n
 seen_left r s n t = (rw t at (seen_more r s n)) ∙ append-nil (seen_below r s n)
 
-passed : (r : Registers) (s from n : ℕ) → ((j : ℕ) → from ≤ j → j < from + n → is_entry_of r s j ≡ false) → seen_below r s (from + n) ≡ seen_below r s from
+passed : (r : Registers) (s from n : ℕ) → ((j : ℕ) → from ≤ j → j < from + n → is_entry_of r s j ≡ false)
+    → seen_below r s (from + n) ≡ seen_below r s from
 passed r s from zero none = let e : from + 0 ≡ from = omega arith in ap (seen_below r s) e
 passed r s from (suc n) none =
     let e : from + suc n ≡ (from + n) + 1 = omega arith in
@@ -89,34 +92,40 @@ passed r s from (suc n) none =
     ∙ (seen_left r s (from + n) (unseen r s (from + n) (none (from + n) (omega arith) (omega arith)))
     ∙ passed r s from n (λ j x y. none j x (omega arith)))
 
-seen_past : (r : Registers) (s from to : ℕ) → from ≤ to → ((j : ℕ) → from ≤ j → j < to → is_entry_of r s j ≡ false) → seen_below r s to ≡ seen_below r s from
+seen_past : (r : Registers) (s from to : ℕ) → from ≤ to → ((j : ℕ) → from ≤ j → j < to → is_entry_of r s j ≡ false)
+    → seen_below r s to ≡ seen_below r s from
 seen_past r s from to l none =
     let e : to ≡ from + (to - from) = omega arith in
     ap (seen_below r s) e ∙ passed r s from (to - from) (λ j x y. none j x (omega arith))
 
 -- ---- a run of another's entries, and the end of the walk
 
-pub seen_foreign : (r : Registers) (s d from to : ℕ) → from ≤ to → IsRun r d from to → is_associated r s d ≡ false → seen_below r s to ≡ seen_below r s from
+pub seen_foreign : (r : Registers) (s d from to : ℕ) → from ≤ to → IsRun r d from to → is_associated r s d ≡ false
+    → seen_below r s to ≡ seen_below r s from
 seen_foreign r s d from to l run other =
     seen_past r s from to l (λ j x y. let e = run j x y in rw (e, other) refl)
 
-pub seen_all : (r : Registers) (s d from : ℕ) → r.shape.domains ≤ d → from ≤ r.shape.entries → IsStart r r.shape.entries d from → view_of r s ≡ seen_below r s from
+pub seen_all : (r : Registers) (s d from : ℕ) → r.shape.domains ≤ d → from ≤ r.shape.entries → IsStart r r.shape.entries d from
+    → view_of r s ≡ seen_below r s from
 unfolding view_of
 seen_all r s d from h l start =
     seen_past r s from r.shape.entries l (λ j x y. let e = run_none r r.shape.entries d from h start j x y in rw e refl)
 
 -- ---- what an entry of the requester grants
 
-pub grants_by_domain : (r : Registers) (s j d : ℕ) (kind : Kind) → owner_of r j ≡ Some d → entry_grants r s kind j ≡ (has_bit (reg r (EntryCfg j)) (kind_code kind) && domain_grants r s d kind)
+pub grants_by_domain : (r : Registers) (s j d : ℕ) (kind : Kind) → owner_of r j ≡ Some d
+    → entry_grants r s kind j ≡ (has_bit (reg r (EntryCfg j)) (kind_code kind) && domain_grants r s d kind)
 grants_by_domain r s j d kind e = rw e refl
 
 count_of_word : (word count : ℕ) → count ≡ word % 65536 → count ≡ bits_of 0 16 word
 count_of_word word count e = omega arith
 
 -- what is seen of it, field by field
-pub seen_is : (r : Registers) (s d j count : ℕ) (bytes : ByteRange) (read write fetch : Bool) → owner_of r j ≡ Some d → is_associated r s d ≡ true → HoldsBytes (is_byte_of r j) (Some bytes)
+pub seen_is : (r : Registers) (s d j count : ℕ) (bytes : ByteRange) (read write fetch : Bool) → owner_of r j ≡ Some d
+    → is_associated r s d ≡ true → HoldsBytes (is_byte_of r j) (Some bytes)
     → count ≡ reg r Hwcfg2 % 65536 → read ≡ entry_grants r s Read j → write ≡ entry_grants r s Write j → fetch ≡ entry_grants r s Fetch j
-    → Some (record { priority = ltb j count; from = bytes.from; to = bytes.to; read = read; write = write; fetch = fetch }) ≡ seen_entry r s j
+    → Some (record { priority = ltb j count; from = bytes.from; to = bytes.to; read = read; write = write; fetch = fetch })
+    ≡ seen_entry r s j
 seen_is r s d j count bytes read write fetch owner own h e x y z =
     let view : Some (record { priority = ltb j count; from = bytes.from; to = bytes.to; read = read; write = write; fetch = fetch }) ≡ Some (entry_view r s j bytes) =
     rw (x, y, z) (ap (λ n. Some (record { priority = ltb j n; from = bytes.from; to = bytes.to; read = entry_grants r s Read j; write = entry_grants r s Write j; fetch = entry_grants r s Fetch j })) (count_of_word (reg r Hwcfg2) count e)) in

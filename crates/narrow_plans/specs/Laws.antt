@@ -1,5 +1,5 @@
 -- The laws of narrow plans: equal views decide alike, and what a verdict says during a narrow update.
-use Rattle.std.specs.Prelude.{◌≡◌, ◌⊎◌, ℕ, ◌<◌, true, false, Some, None, List, [], ◌∷◌}
+use Rattle.std.specs.Prelude.{◌≡◌, ◌⊎◌, ℕ, ◌<◌, true, false, Some, List, [], ◌∷◌}
 use Rattle.std.specs.List.{AllByRecursion}
 use Rattle.event_words.specs.declared.access.Access.{Access}
 use Rattle.event_words.specs.declared.event.Event.TheVariants.{Judge}
@@ -10,18 +10,15 @@ use Rattle.event_words.specs.Guards.{is_enabled}
 use Rattle.event_words.specs.Entries.{is_byte_of}
 use Rattle.event_words.specs.Decisions.{decision}
 use Rattle.event_words.specs.Valid.{IsValidAccess}
-use Rattle.event_words.specs.Sections.{SectionOf, HasNoRegisterWrites}
-use Rattle.policy_compiler.specs.Policies.{PolicyOf, IsPolicy}
-use Rattle.policy_compiler.specs.Needs.{need_refusal}
+use Rattle.event_words.specs.Sections.{SectionOf}
+use Rattle.policy_compiler.specs.Policies.{PolicyOf}
 use Rattle.policy_compiler.specs.Images.{image_of}
-use Rattle.policy_compiler.specs.Commands.{image_section}
 use Rattle.policy_compiler.specs.Decides.{policy_decision}
 use Rattle.policy_compiler.specs.Laws.{kind_of}
-use Rattle.update_planner.specs.Gives.{section_with}
-use Rattle.unit_core.specs.Histories.{History, event_at, reply_at, IsLegalHistory, history_of}
+use Rattle.unit_core.specs.Histories.{History, event_at, reply_at, history_of}
 use Rattle.unit_core.specs.Submitted.{IsSubmission}
 use Rattle.unit_core.specs.Updates.{IsDrainedReading, IsRelease}
-use Rattle.history_laws.specs.Live.{kind_of_verdict, IsBeforeReading, IsAfterRelease}
+use Rattle.history_laws.specs.Live.{kind_of_verdict, IsBeforeReading, IsAfterRelease, IsUpdateHistory}
 use Rattle.entry_ranges.specs.Ranges.{HoldsBytes}
 use Rattle.narrow_plans.specs.Views.{entry_range, view_of}
 use Rattle.narrow_plans.specs.BetweenStates.{between_states}
@@ -92,25 +89,17 @@ pub record IsNarrowVerdict (old new : PolicyOf) (h : History) (caller q p : ℕ)
 -- Each verdict is so, and each submission of an unaffected requester passes: it is neither queued nor
 -- turned away.
 pub record KeepsNarrowly (old new : PolicyOf) (h : History) : Type 0 where
-  pub verdicts : (p caller q : ℕ) (verdict : AnyVerdict) → event_at h p ≡ Some (Judge 0 caller q) → reply_at h p ≡ Some (Verdict verdict) → IsNarrowVerdict old new h caller q p verdict
-  pub passes : (p caller : ℕ) (access : Access) → IsSubmission h p 0 caller access → IsUnaffected old new access.rrid → reply_at h p ≡ Some Passed
+  pub verdicts : (p caller q : ℕ) (verdict : AnyVerdict) → event_at h p ≡ Some (Judge 0 caller q) → reply_at h p ≡ Some (Verdict verdict)
+      → IsNarrowVerdict old new h caller q p verdict
+  pub passes : (p caller : ℕ) (access : Access) → IsSubmission h p 0 caller access → IsUnaffected old new access.rrid
+      → reply_at h p ≡ Some Passed
 
 -- ---- narrow histories
 
--- the sections of the lanes: the narrow plan, and lanes that stand beside it
-abbrev pub narrow_lanes : PolicyOf → PolicyOf → ℕ → List SectionOf → List SectionOf
-narrow_lanes old new polls lanes = section_with (narrow_commands (image_of old) (image_of new) polls) ∷ lanes
-
--- Two policies of equal shapes that both compile, and a history of one unit of this shape that is legal for
--- the old image's writes as its boot section and the narrow plan in lane 1. No other lane writes registers.
-pub record IsNarrowHistory (old new : PolicyOf) (polls : ℕ) (lanes : List SectionOf) (words : List ℕ) : Type 0 where
-  pub old_policy : IsPolicy old
-  pub new_policy : IsPolicy new
-  pub shapes : old.shape ≡ new.shape
-  pub old_fits : need_refusal old ≡ None
-  pub new_fits : need_refusal new ≡ None
-  pub no_writes : AllByRecursion HasNoRegisterWrites lanes
-  pub legal : IsLegalHistory (old.shape ∷ []) (image_section (image_of old)) (narrow_lanes old new polls lanes) words
+-- The history of an update in which only the affected requesters stall.
+abbrev pub IsNarrowHistory : PolicyOf → PolicyOf → ℕ → List SectionOf → List ℕ → Type 0
+IsNarrowHistory old new polls lanes words =
+    IsUpdateHistory (narrow_commands (image_of old) (image_of new) polls) old new lanes words
 
 -- The states between decide alike on an unaffected requester, and each narrow history keeps the policies.
 pub record IsNarrow (old new : PolicyOf) (h : History) : Type 0 where
@@ -119,4 +108,5 @@ pub record IsNarrow (old new : PolicyOf) (h : History) : Type 0 where
 
 abbrev pub LawNarrow : Type 0
 LawNarrow =
-    (old new : PolicyOf) (polls : ℕ) (lanes : List SectionOf) (words : List ℕ) → IsNarrowHistory old new polls lanes words → IsNarrow old new (history_of (old.shape ∷ []) words)
+    (old new : PolicyOf) (polls : ℕ) (lanes : List SectionOf) (words : List ℕ) → IsNarrowHistory old new polls lanes words
+    → IsNarrow old new (history_of (old.shape ∷ []) words)

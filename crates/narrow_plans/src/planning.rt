@@ -6,7 +6,7 @@ ghost use Rattle.policy_compiler.specs.Policies.{IsPolicy};
 ghost use Rattle.policy_compiler.specs.Images.{image_of};
 ghost use Rattle.policy_compiler.specs.Needs.{need_refusal};
 ghost use Rattle.update_planner.specs.Refusals.{plan_refusal};
-ghost use Rattle.update_planner.specs.Gives.{IsPlan, Plans, SaysShapesDiffer};
+ghost use Rattle.update_planner.specs.Gives.{Plans, SaysShapesDiffer};
 ghost use Rattle.update_planner.specs.Values.{WritesUnit};
 ghost use Rattle.narrow_plans.specs.NarrowPlans.{stall_command, narrow_commands};
 ghost use Rattle.narrow_plans.specs.Stalls.{stalls};
@@ -15,7 +15,7 @@ use crate::states::keeps_view;
 use event_words::{Command, Register};
 use policy_compiler::{Image, Policy, RegPair};
 use std::alloc::{AllocError, Global};
-use update_planner::{Plan, PlanError, image, plan_refusal, rewrite, rewrites};
+use update_planner::{Plan, PlanError, plan_images, rewrite, rewrites};
 
 /// The command of RRIDSCP that stalls the requester in its low bits.
 const STALL: u32 = 1 << 30;
@@ -72,25 +72,8 @@ fn commands(alloc: Global, old: &Image, new: &Image, polls: u32) -> Result<Vec<C
     Ok(commands)
 }
 
-/// The narrow plan of two policies that fit one unit.
-fn fitting_plan(alloc: Global, old: &Policy, new: &Policy, polls: u32) -> Result<Plan, PlanError>
-    requires polls { IsMax polls }
-    requires old { IsPolicy old.now }
-    requires new { IsPolicy new.now }
-    requires same { old.now.shape ≡ new.now.shape }
-    requires old_fits { need_refusal old.now ≡ None }
-    requires new_fits { need_refusal new.now ≡ None }
-    ensures plan { IsPlan result (narrow_commands (image_of old.now) (image_of new.now) polls) }
-    ensures valid { IfOk result (λ p. IsValidSection p.section) }
-{
-    let old = image(alloc, old)?;
-    let new = image(alloc, new)?;
-    let commands = commands(alloc, &old, &new, polls)?;
-    Ok(Plan::of(commands))
-}
-
-/// The narrow plan from the old policy to the new one, with the conditions of [`update_planner::plan`]. It fails where
-/// that fails, with the same error.
+/// The narrow plan from the old policy to the new one, with the conditions of [`update_planner::plan`].
+/// It fails where that fails, with the same error.
 pub fn narrow(alloc: Global, old: &Policy, new: &Policy, polls: u32) -> Result<Plan, PlanError>
     requires polls { IsMax polls }
     requires old { IsPolicy old.now }
@@ -102,8 +85,7 @@ pub fn narrow(alloc: Global, old: &Policy, new: &Policy, polls: u32) -> Result<P
         × (need_refusal old.now ≡ None) × (need_refusal new.now ≡ None)) }
     ensures valid { IfOk result (λ p. IsValidSection p.section) }
 {
-    match plan_refusal(old, new) {
-        Some(error) => Err(error),
-        None => fitting_plan(alloc, old, new, polls),
-    }
+    let (old_image, new_image) = plan_images(alloc, old, new)?;
+    let commands = commands(alloc, &old_image, &new_image, polls)?;
+    Ok(Plan::of(commands))
 }

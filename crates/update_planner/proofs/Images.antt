@@ -21,7 +21,8 @@ of_unit : (h : Shape) (ws : List RegPair) → AreWithin 0 (index_count h) ws →
 of_unit h [] all = tt
 of_unit h (w ∷ ws) all = (all.0.1, of_unit h ws all.1)
 
-pub unit_writes : (old new : PolicyOf) (i j : ImageOf) → i ≡ image_of old → j ≡ image_of new → IsPolicy old → need_refusal old ≡ None → old.shape ≡ new.shape → WritesUnit j.shape i
+pub unit_writes : (old new : PolicyOf) (i j : ImageOf) → i ≡ image_of old → j ≡ image_of new → IsPolicy old → need_refusal old ≡ None
+    → old.shape ≡ new.shape → WritesUnit j.shape i
 unit_writes old new i j e f good fits same =
     let own : WritesUnit old.shape (image_of old) = of_unit old.shape (image_of old).writes (image_within old good fits) in
     let shape : old.shape ≡ j.shape = same ∙ (sym (image_shape new) ∙ ap (λ (x : ImageOf). x.shape) (sym f)) in
@@ -43,10 +44,12 @@ images_given None old new i j given = given
 images_given (Some e) old new i j given = absurd (let n : Ok (old, new) ≡ Err e = given in cc)
 
 -- from the drained reading on
-pub valid_tail : (new : PolicyOf) (i j : ImageOf) (polls : ℕ) → j ≡ image_of new → IsPolicy new → need_refusal new ≡ None → IsMax polls → IsValidTail (rewriting (rewrites i j) polls)
+pub valid_tail : (new : PolicyOf) (i j : ImageOf) (polls : ℕ) → j ≡ image_of new → IsPolicy new → need_refusal new ≡ None → IsMax polls
+    → IsValidTail (rewriting (rewrites i j) polls)
 valid_tail new i j polls f good fits max =
     valid_rewriting i j polls max (shape_at new j f good) (words_at new j f good fits)
 
-pub valid_between : (new : PolicyOf) (i j : ImageOf) (polls : ℕ) → j ≡ image_of new → IsPolicy new → need_refusal new ≡ None → IsMax polls → IsValidSection (section_with (plan_commands i j polls))
+pub valid_between : (new : PolicyOf) (i j : ImageOf) (polls : ℕ) → j ≡ image_of new → IsPolicy new → need_refusal new ≡ None → IsMax polls
+    → IsValidSection (section_with (plan_commands i j polls))
 valid_between new i j polls f good fits max =
     valid_plan i j polls max (shape_at new j f good) (words_at new j f good fits)

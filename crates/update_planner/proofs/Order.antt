@@ -43,7 +43,8 @@ other_key q k ne = at_key q k ∙ search (nat_tests, arith)
 first_found : (q : ℕ) (e : ℕ × ℕ) (es : List (ℕ × ℕ)) → q ≡ e.0 → lookup (is_at (nat_cmp q)) (e ∷ es) ≡ Some e.1
 first_found q e es h = lookup_head (is_at (nat_cmp q)) e es (same_key q e.0 h)
 
-none_before : (q : ℕ) (e : ℕ × ℕ) (es : List (ℕ × ℕ)) → IsStrictlySortedBy nat_cmp (keys_of (e ∷ es)) → q < e.0 → lookup (is_at (nat_cmp q)) (e ∷ es) ≡ None
+none_before : (q : ℕ) (e : ℕ × ℕ) (es : List (ℕ × ℕ)) → IsStrictlySortedBy nat_cmp (keys_of (e ∷ es)) → q < e.0
+    → lookup (is_at (nat_cmp q)) (e ∷ es) ≡ None
 none_before q e es sorted l = lookup-none (is_at (nat_cmp q)) (e ∷ es) (none_below_head nat_cmp_total q e es sorted (sym (nat_cmp_is q e.0 Less l)))
 
 less_says : (a b : Bool) (x y : ℕ) → ltb x y ≡ a → (x == y) ≡ b → cond a Less (cond b Equal Greater) ≡ Less → x < y
@@ -72,14 +73,20 @@ rest_finds p v a e es h finds q l = sym (lookup_tail (is_at (nat_cmp q)) e es (o
 abbrev pub pairs_from : (ℕ → Bool) → (ℕ → ℕ) → ℕ → ℕ → List (ℕ × ℕ)
 pairs_from p v a n = map (with_value v) (filter p (range_with_len a n))
 
+-- entries that have these values from an index on are the pairs of the n indexes from there on
+abbrev ArePairs : (ℕ → Bool) → (ℕ → ℕ) → ℕ → ℕ → Type 0
+ArePairs p v a n = (es : List (ℕ × ℕ)) → IsStrictlySortedBy nat_cmp (keys_of es) → BeginsFrom a es → Finds p v a es → es ≡ pairs_from p v a n
+
 over_next : (p : ℕ → Bool) (a n : ℕ) → IsOver p (a + suc n) → IsOver p ((a + 1) + n)
 over_next p a n over q l = over q (omega arith)
 
-one_more : (p : ℕ → Bool) (v : ℕ → ℕ) (a n : ℕ) (b : Bool) → p a ≡ b → pairs_from p v a (suc n) ≡ cond b (with_value v a ∷ pairs_from p v (a + 1) n) (pairs_from p v (a + 1) n)
+one_more : (p : ℕ → Bool) (v : ℕ → ℕ) (a n : ℕ) (b : Bool) → p a ≡ b
+    → pairs_from p v a (suc n) ≡ cond b (with_value v a ∷ pairs_from p v (a + 1) n) (pairs_from p v (a + 1) n)
 one_more p v a n true e = rw e refl
 one_more p v a n false e = rw e refl
 
-first_is : (p : ℕ → Bool) (v : ℕ → ℕ) (a : ℕ) (e : ℕ × ℕ) (es : List (ℕ × ℕ)) → IsStrictlySortedBy nat_cmp (keys_of (e ∷ es)) → BeginsFrom a (e ∷ es) → Finds p v a (e ∷ es) → p a ≡ true → (a ≡ e.0) × (v a ≡ e.1)
+first_is : (p : ℕ → Bool) (v : ℕ → ℕ) (a : ℕ) (e : ℕ × ℕ) (es : List (ℕ × ℕ)) → IsStrictlySortedBy nat_cmp (keys_of (e ∷ es))
+    → BeginsFrom a (e ∷ es) → Finds p v a (e ∷ es) → p a ≡ true → (a ≡ e.0) × (v a ≡ e.1)
 first_is p v a e es sorted begins finds present =
     let g : lookup (is_at (nat_cmp a)) (e ∷ es) ≡ Some (v a) = finds a (omega arith) ∙ ap (λ b. held b (v a)) present in
     ⊎_elim
@@ -90,7 +97,8 @@ first_is p v a e es sorted begins finds present =
 pair_is : (e : ℕ × ℕ) (a x : ℕ) → a ≡ e.0 → x ≡ e.1 → e ≡ (a, x)
 pair_is (k, y) a x p q = cc
 
-pub entries_are : (p : ℕ → Bool) (v : ℕ → ℕ) (a n : ℕ) (es : List (ℕ × ℕ)) → IsStrictlySortedBy nat_cmp (keys_of es) → BeginsFrom a es → Finds p v a es → IsOver p (a + n) → es ≡ pairs_from p v a n
+pub entries_are : (p : ℕ → Bool) (v : ℕ → ℕ) (a n : ℕ) (es : List (ℕ × ℕ)) → IsStrictlySortedBy nat_cmp (keys_of es) → BeginsFrom a es
+    → Finds p v a es → IsOver p (a + n) → es ≡ pairs_from p v a n
 entries_are p v a zero [] sorted begins finds over = refl
 entries_are p v a zero (e ∷ es) sorted begins finds over =
     let absent : p e.0 ≡ false = over e.0 (omega arith) in
@@ -101,7 +109,8 @@ entries_are p v a (suc n) es sorted begins finds over =
     by_test (p a) refl es sorted begins finds (λ xs s b f. entries_are p v (a + 1) n xs s b f (over_next p a n over))
   where
     by_test : (b : Bool) → p a ≡ b → (es : List (ℕ × ℕ)) → IsStrictlySortedBy nat_cmp (keys_of es) → BeginsFrom a es → Finds p v a es
-        → ((xs : List (ℕ × ℕ)) → IsStrictlySortedBy nat_cmp (keys_of xs) → BeginsFrom (a + 1) xs → Finds p v (a + 1) xs → xs ≡ pairs_from p v (a + 1) n) → es ≡ pairs_from p v a (suc n)
+        → ArePairs p v (a + 1) n
+        → es ≡ pairs_from p v a (suc n)
     by_test false absent es sorted begins finds ih = ih es sorted (passed p v a es begins finds absent) (later p v a es finds) ∙ sym (one_more p v a n false absent)
     by_test true present [] sorted begins finds ih = absurd (let g : None ≡ Some (v a) = finds a (omega arith) ∙ ap (λ b. held b (v a)) present in cc)
     by_test true present (e ∷ es) sorted begins finds ih =

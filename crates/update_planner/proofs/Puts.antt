@@ -19,12 +19,15 @@ by_order k q false false s t = refl
 pub at_key : (k q : ℕ) → is_at (nat_cmp k) q ≡ (k == q)
 at_key k q = by_order k q (ltb k q) (k == q) refl refl
 
-value_case : (o : Option ℕ) (b : Bool) (v : ℕ) (before : Option ℕ) → option_or o (cond b (Some v) before) ≡ option_or (option_or o (if b then Some v else None)) before
+value_case : (o : Option ℕ) (b : Bool) (v : ℕ) (before : Option ℕ)
+    → option_or o (cond b (Some v) before) ≡ option_or (option_or o (if b then Some v else None)) before
 value_case None true v before = refl
 value_case None false v before = refl
 value_case (Some x) b v before = refl
 
-zero_case : (o : Option ℕ) (b : Bool) (v : ℕ) (before : Option ℕ) → option_or (option_map zero_for o) (cond b (Some 0) before) ≡ option_or (option_map zero_for (option_or o (if b then Some v else None))) before
+zero_case : (o : Option ℕ) (b : Bool) (v : ℕ) (before : Option ℕ)
+    → option_or (option_map zero_for o) (cond b (Some 0) before)
+    ≡ option_or (option_map zero_for (option_or o (if b then Some v else None))) before
 zero_case None true v before = refl
 zero_case None false v before = refl
 zero_case (Some x) b v before = refl

@@ -71,16 +71,19 @@ unfolding lib.Count.count_trailing_zeros lib.Count.ones is_single rule_entries p
 many_domains = refl
 
 -- a unit with an entry more, where both need too much
-differing_units : plan_refusal (policy_of 1 1 (page 0 1 ∷ []) (page 0 1 ∷ [])) (policy_of 1 2 (page 0 1 ∷ []) (page 0 1 ∷ [])) ≡ Some (ShapesDiffer 2)
+differing_units : plan_refusal (policy_of 1 1 (page 0 1 ∷ []) (page 0 1 ∷ [])) (policy_of 1 2 (page 0 1 ∷ []) (page 0 1 ∷ []))
+    ≡ Some (ShapesDiffer 2)
 unfolding lib.Count.count_trailing_zeros lib.Count.ones is_single rule_need need_domains need_entries need_refusal plan_refusal
 differing_units = refl
 
 -- the old policy needs too many domains, the new one too many entries
-both_need_more : plan_refusal (policy_of 1 1 (page 0 1 ∷ []) (page 0 1 ∷ [])) (policy_of 1 1 [] (page 0 1 ∷ page 0 1 ∷ [])) ≡ Some (Compile false (TooManyDomains 2 1))
+both_need_more : plan_refusal (policy_of 1 1 (page 0 1 ∷ []) (page 0 1 ∷ [])) (policy_of 1 1 [] (page 0 1 ∷ page 0 1 ∷ []))
+    ≡ Some (Compile false (TooManyDomains 2 1))
 unfolding lib.Count.count_trailing_zeros lib.Count.ones is_single rule_need need_domains need_entries need_refusal plan_refusal
 both_need_more = refl
 
 -- the new policy alone needs too many entries
-newer_needs_more : plan_refusal (policy_of 1 1 [] (page 0 1 ∷ [])) (policy_of 1 1 [] (page 0 1 ∷ page 0 1 ∷ [])) ≡ Some (Compile true (TooManyEntries 2 1))
+newer_needs_more : plan_refusal (policy_of 1 1 [] (page 0 1 ∷ [])) (policy_of 1 1 [] (page 0 1 ∷ page 0 1 ∷ []))
+    ≡ Some (Compile true (TooManyEntries 2 1))
 unfolding lib.Count.count_trailing_zeros lib.Count.ones is_single rule_need need_domains need_entries need_refusal plan_refusal
 newer_needs_more = refl

@@ -26,7 +26,9 @@ use Rattle.update_planner.proofs.Order.{held, with_value, IsOver, BeginsFrom, en
 abbrev new_value : ImageOf → ℕ → ℕ
 new_value new index = unwrap_or (written_value new.writes index) 0
 
-value_held : (old new : Option ℕ) (b : Bool) → cond b None (option_or new (option_or (option_map zero_for old) None)) ≡ held (not b && (is_some old || is_some new)) (unwrap_or new 0)
+value_held : (old new : Option ℕ) (b : Bool)
+    → cond b None (option_or new (option_or (option_map zero_for old) None))
+    ≡ held (not b && (is_some old || is_some new)) (unwrap_or new 0)
 value_held old new true = refl
 value_held None None false = refl
 value_held None (Some y) false = refl
@@ -41,7 +43,8 @@ not_written h (w ∷ ws) q all l =
     let other : (w.index == q) ≡ false = grind (arith, nat_tests) in
     rw (not_written h ws q all.1 l, other) refl
 
-none_over : (old new : ImageOf) → WritesUnit new.shape old → WritesUnit new.shape new → IsOver (is_rewritten old new) (0 + index_count new.shape)
+none_over : (old new : ImageOf) → WritesUnit new.shape old → WritesUnit new.shape new
+    → IsOver (is_rewritten old new) (0 + index_count new.shape)
 none_over old new a b q l =
     let o = not_written new.shape old.writes q a (omega arith) in
     let n = not_written new.shape new.writes q b (omega arith) in
@@ -51,7 +54,8 @@ none_over old new a b q l =
     by_test true = refl
     by_test false = refl
 
-written_pairs : (new : ImageOf) (is : List ℕ) → map write_command (map entry_pair (map (with_value (new_value new)) is)) ≡ map (rewrite new) is
+written_pairs : (new : ImageOf) (is : List ℕ)
+    → map write_command (map entry_pair (map (with_value (new_value new)) is)) ≡ map (rewrite new) is
 written_pairs new [] = refl
 written_pairs new (i ∷ is) = ap (λ cs. rewrite new i ∷ cs) (written_pairs new is)
 
@@ -60,7 +64,8 @@ begins [] = tt
 begins (e ∷ es) = omega arith
 
 -- The writes of a map's entries are the plan's.
-pub pairs_rewrite : (old new : ImageOf) (m : BTreeMap ℕ ℕ) (ws : List RegPair) → ws ≡ map entry_pair m.entries → WritesUnit new.shape old → WritesUnit new.shape new → IsOrdered nat_cmp m
+pub pairs_rewrite : (old new : ImageOf) (m : BTreeMap ℕ ℕ) (ws : List RegPair) → ws ≡ map entry_pair m.entries → WritesUnit new.shape old
+    → WritesUnit new.shape new → IsOrdered nat_cmp m
     → ((q : ℕ) → get nat_cmp m q ≡ rewritten_value old.writes new.writes q) → map write_command ws ≡ rewrites old new
 unfolding rewrites
 pairs_rewrite old new m ws is a b ordered finds =
@@ -74,7 +79,8 @@ word_written : (ws : List RegPair) (q : ℕ) → AreWords ws → IfSome (written
 word_written [] q words = tt
 word_written (w ∷ ws) q words = by_cases (written_value ws q) (w.index == q) (word_written ws q words.1) words.0
   where
-    by_cases : (o : Option ℕ) (b : Bool) → IfSome o (λ v. v < 2 ^ 32) → w.value < 2 ^ 32 → IfSome (option_or o (cond b (Some w.value) None)) (λ v. v < 2 ^ 32)
+    by_cases : (o : Option ℕ) (b : Bool) → IfSome o (λ v. v < 2 ^ 32) → w.value < 2 ^ 32
+        → IfSome (option_or o (cond b (Some w.value) None)) (λ v. v < 2 ^ 32)
     by_cases (Some x) b h k = h
     by_cases None true h k = k
     by_cases None false h k = tt
@@ -109,7 +115,8 @@ filter_few p a (suc n) = by_test (p a) (filter p (range_with_len (a + 1) n)) (fi
 abbrev release : List Command
 release = Write 0 (index_of Mdstall) 0 ∷ []
 
-valid_rewrites : (new : ImageOf) (is : List ℕ) → AreWords new.writes → AllByRecursion IsIndex is → AreValidCommands 0 (map (rewrite new) is ++ release)
+valid_rewrites : (new : ImageOf) (is : List ℕ) → AreWords new.writes → AllByRecursion IsIndex is
+    → AreValidCommands 0 (map (rewrite new) is ++ release)
 valid_rewrites new [] words small = ((omega arith, omega arith, omega arith), tt)
 valid_rewrites new (i ∷ is) words small =
     ((omega arith, small.0, small_or_zero (written_value new.writes i) (word_written new.writes i words)), valid_rewrites new is words small.1)
@@ -124,7 +131,8 @@ pub record IsValidTail (commands : List Command) : Type 0 where
   pub slots : count_by is_submit commands ≡ 0
   pub all : AreValidCommands 0 commands
 
-pub valid_rewriting : (old new : ImageOf) (polls : ℕ) → IsMax polls → index_count new.shape ≤ most_indexes → AreWords new.writes → IsValidTail (rewriting (rewrites old new) polls)
+pub valid_rewriting : (old new : ImageOf) (polls : ℕ) → IsMax polls → index_count new.shape ≤ most_indexes → AreWords new.writes
+    → IsValidTail (rewriting (rewrites old new) polls)
 unfolding rewrites
 valid_rewriting old new polls max few words =
     let is : List ℕ = filter (is_rewritten old new) (range_with_len 0 (index_count new.shape)) in
@@ -141,7 +149,8 @@ valid_rewriting old new polls max few words =
     }
 
 -- The commands of a plan make a valid section.
-pub valid_plan : (old new : ImageOf) (polls : ℕ) → IsMax polls → index_count new.shape ≤ most_indexes → AreWords new.writes → IsValidSection (section_with (plan_commands old new polls))
+pub valid_plan : (old new : ImageOf) (polls : ℕ) → IsMax polls → index_count new.shape ≤ most_indexes → AreWords new.writes
+    → IsValidSection (section_with (plan_commands old new polls))
 unfolding plan_commands
 valid_plan old new polls max few words =
     let tail = valid_rewriting old new polls max few words in

@@ -11,7 +11,7 @@ mod values;
 
 pub use answer::{Plan, PlanError};
 pub use commands::{rewrite, rewrites};
-pub use planning::{image, plan, plan_images};
+pub use planning::{plan, plan_images};
 pub use refusal::plan_refusal;
 
 #[cfg(test)]

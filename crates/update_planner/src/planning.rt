@@ -15,7 +15,7 @@ use policy_compiler::{Image, Policy, compile};
 use std::alloc::Global;
 
 /// The image of a policy that fits its unit. It fails for want of memory alone.
-pub fn image(alloc: Global, policy: &Policy) -> Result<Image, PlanError>
+fn image(alloc: Global, policy: &Policy) -> Result<Image, PlanError>
     requires policy { IsPolicy policy.now }
     requires fits { need_refusal policy.now ≡ None }
     ensures { MatchResult result (λ i. i ≡ image_of policy.now) (λ e. e ≡ PlanError.NoMemory) }
