@@ -1,15 +1,18 @@
 -- The first event of a piece, and what is left of the piece after it.
-use Rattle.std.proofs.Common.{arith, ◌≡◌, if◌then◌else◌, ℕ, zero, suc, ◌&&◌, nat_lt, Bool, true, false, not, List, [], ◌∷◌, Option, Some, None, drop, slice_get, refl, sym, ap, ◌∙◌}
+use Rattle.std.proofs.Common.{arith, ◌≡◌, if◌then◌else◌, ℕ, zero, suc, ◌&&◌, nat_lt, Bool, true, false, not, List, [], ◌∷◌, Option, Some, None, drop, slice_get, ◌≤◌, ◌-◌, refl, sym, ap, ◌∙◌}
 use Rattle.std.proofs.lemmas.Bool.Decides.{nat_tests}
 use Rattle.event_words.specs.declared.event.Event.{Event}
 use Rattle.event_words.specs.declared.record.LoggedEvent.{LoggedEvent}
+use Rattle.event_words.specs.declared.record.SectionEnd.{SectionEnd}
 use Rattle.event_words.specs.declared.section.Command.{Command}
 use Rattle.event_words.specs.Events.{same_event}
 use Rattle.event_words.specs.Sections.{stage_units}
 use Rattle.event_words.specs.Records.{OpenSlot, judgements, polls, stage_judged, one_stage, settled, until_piece, through_piece, through_stages, after_piece, end_of_commands, is_held, hits, closed_by}
 use Rattle.section_cursor.specs.declared.ahead.Chain.{Chain}
+use Rattle.section_cursor.specs.declared.ahead.Ahead.{Ahead}
+use Rattle.section_cursor.specs.declared.ahead.Part.{Part}
 use Rattle.section_cursor.specs.declared.ahead.Part.TheVariants.{Polling, StageJudging, Judging}
-use Rattle.section_cursor.specs.declared.ahead.Ahead.TheVariants.{Awaiting}
+use Rattle.section_cursor.specs.declared.ahead.Ahead.TheVariants.{Awaiting, Broken}
 use Rattle.section_cursor.specs.Cursors.{end_of_rest, end_after, stages_on}
 
 -- a choice inside goes outside
@@ -21,34 +24,44 @@ taken : {A B : Type 0} (C : Option A → Option B) → C None ≡ None → (b : 
 taken C none true y = refl
 taken C none false y = sym none
 
-judging_next : (caller : ℕ) (cs : List Command) (slots : List (Option OpenSlot)) (slot : ℕ) (e : Event) (left : ℕ) (xs : List LoggedEvent)
+-- what comes next with some tries: the first of them, or nothing where there is none
+pub first_of_tries : (F : Ahead → Option SectionEnd) (whole : ℕ → Option SectionEnd) (part : ℕ → Part) (event : Event) (tries left : ℕ) (ahead : Ahead)
+    → (tries ≡ 0 → ahead ≡ Broken) → (1 ≤ tries → ahead ≡ Awaiting event (part left)) → left ≡ tries - 1
+    → F Broken ≡ whole 0 → ((n : ℕ) → F (Awaiting event (part n)) ≡ whole (suc n)) → F ahead ≡ whole tries
+first_of_tries F whole part event zero left ahead none some l base next = ap F (none refl) ∙ base
+first_of_tries F whole part event (suc n) left ahead none some l base next =
+    let one : 1 ≤ suc n = omega arith in
+    let same : left ≡ n = omega (arith, l) in
+    ap F (some one) ∙ ap (λ k. F (Awaiting event (part k))) same ∙ next n
+
+pub judging_next : (caller : ℕ) (cs : List Command) (slots : List (Option OpenSlot)) (slot : ℕ) (e : Event) (left : ℕ) (xs : List LoggedEvent)
     → end_of_rest caller cs slots (Awaiting e (Judging slot left)) xs ≡ after_piece (end_of_commands caller cs) (settled slots slot (judgements (suc left) e xs))
 judging_next caller cs slots slot e left [] = refl
 judging_next caller cs slots slot e left (x ∷ xs) = refused (λ o. after_piece (end_of_commands caller cs) (settled slots slot o)) refl (same_event e x.event) _
 
-pub judging_first : (caller : ℕ) (cs : List Command) (slots : List (Option OpenSlot)) (slot : ℕ) (e : Event) (tries left : ℕ) (xs : List LoggedEvent) → suc left ≡ tries
+judging_first : (caller : ℕ) (cs : List Command) (slots : List (Option OpenSlot)) (slot : ℕ) (e : Event) (tries left : ℕ) (xs : List LoggedEvent) → suc left ≡ tries
     → end_of_rest caller cs slots (Awaiting e (Judging slot left)) xs ≡ after_piece (end_of_commands caller cs) (settled slots slot (judgements tries e xs))
 judging_first caller cs slots slot e tries left xs h =
     judging_next caller cs slots slot e left xs ∙ ap (λ n. after_piece (end_of_commands caller cs) (settled slots slot (judgements n e xs))) h
 
-polling_next : (caller : ℕ) (cs : List Command) (slots : List (Option OpenSlot)) (e : Event) (mask value left : ℕ) (xs : List LoggedEvent)
+pub polling_next : (caller : ℕ) (cs : List Command) (slots : List (Option OpenSlot)) (e : Event) (mask value left : ℕ) (xs : List LoggedEvent)
     → end_of_rest caller cs slots (Awaiting e (Polling mask value left)) xs ≡ after_piece (end_of_commands caller cs) (until_piece slots (polls (suc left) e mask value xs))
 polling_next caller cs slots e mask value left [] = refl
 polling_next caller cs slots e mask value left (x ∷ xs) = refused (λ o. after_piece (end_of_commands caller cs) (until_piece slots o)) refl (same_event e x.event) _
 
-pub polling_first : (caller : ℕ) (cs : List Command) (slots : List (Option OpenSlot)) (e : Event) (mask value tries left : ℕ) (xs : List LoggedEvent) → suc left ≡ tries
+polling_first : (caller : ℕ) (cs : List Command) (slots : List (Option OpenSlot)) (e : Event) (mask value tries left : ℕ) (xs : List LoggedEvent) → suc left ≡ tries
     → end_of_rest caller cs slots (Awaiting e (Polling mask value left)) xs ≡ after_piece (end_of_commands caller cs) (until_piece slots (polls tries e mask value xs))
 polling_first caller cs slots e mask value tries left xs h =
     polling_next caller cs slots e mask value left xs ∙ ap (λ n. after_piece (end_of_commands caller cs) (until_piece slots (polls n e mask value xs))) h
 
-stage_judging_next : (caller : ℕ) (cs : List Command) (slots : List (Option OpenSlot)) (e : Event) (left : ℕ) (chain : Chain) (xs : List LoggedEvent)
+pub stage_judging_next : (caller : ℕ) (cs : List Command) (slots : List (Option OpenSlot)) (e : Event) (left : ℕ) (chain : Chain) (xs : List LoggedEvent)
     → end_of_rest caller cs slots (Awaiting e (StageJudging left chain)) xs
     ≡ after_piece (end_of_commands caller cs) (through_piece slots (stage_judged (stages_on caller chain) (judgements (suc left) e xs)))
 stage_judging_next caller cs slots e left chain [] = refl
 stage_judging_next caller cs slots e left chain (x ∷ xs) =
     refused (λ o. after_piece (end_of_commands caller cs) (through_piece slots (stage_judged (stages_on caller chain) o))) refl (same_event e x.event) _
 
-pub stage_judging_first : (caller : ℕ) (cs : List Command) (slots : List (Option OpenSlot)) (e : Event) (tries left : ℕ) (chain : Chain) (xs : List LoggedEvent) → suc left ≡ tries
+stage_judging_first : (caller : ℕ) (cs : List Command) (slots : List (Option OpenSlot)) (e : Event) (tries left : ℕ) (chain : Chain) (xs : List LoggedEvent) → suc left ≡ tries
     → end_of_rest caller cs slots (Awaiting e (StageJudging left chain)) xs
     ≡ after_piece (end_of_commands caller cs) (through_piece slots (stage_judged (stages_on caller chain) (judgements tries e xs)))
 stage_judging_first caller cs slots e tries left chain xs h =

@@ -9,11 +9,29 @@ ghost use Rattle.event_words.specs.Records.{judgements, polls, settled, until_pi
 ghost use Rattle.std.specs.List.{AllByRecursion};
 ghost use Rattle.event_words.specs.Events.{caller_of};
 ghost use Rattle.event_words.specs.Valid.{IsValidAccess, IsValidEvent};
-ghost use Rattle.section_cursor.specs.ValidEvents.{IsValidAhead, IsValidChain, IsValidSlot, IsPlayable};
-ghost use Rattle.section_cursor.specs.Cursors.{end_of_rest, stages_on, submits, AheadHasTries, HasTries};
+ghost use Rattle.section_cursor.specs.declared.ahead.Ahead.TheVariants as aheads;
+ghost use Rattle.section_cursor.specs.ValidEvents.{IsValidAhead, IsValidChain, IsValidPart, IsValidSlot, IsPlayable};
+ghost use Rattle.section_cursor.specs.Cursors.{end_of_rest, stages_on, part_submits, submits, AheadHasTries, PartHasTries, HasTries};
 
 use crate::ahead::{Ahead, Chain, OpenSlot, Part};
 use event_words::{Access, Command, Event, Stages};
+
+/// The first of up to `tries` tries of an event, which is this part: nothing may come where there is
+/// none.
+#[inline(always)]
+fn first_try(event: Event, tries: u32, part: Part) -> Ahead
+    ensures none { tries ≡ 0 → result ≡ aheads.Broken }
+    ensures first { 1 ≤ tries → result ≡ aheads.Awaiting event part }
+    ensures submits { part_submits part ≡ 0 → submits result ≡ 0 }
+    ensures tries { PartHasTries part → AheadHasTries result }
+    ensures valid { (who : ℕ) → caller_of event ≡ who → IsValidEvent event → IsValidPart part →
+        IsValidAhead who result }
+{
+    if tries == 0 {
+        return Ahead::Broken;
+    }
+    Ahead::Awaiting { event, part }
+}
 
 /// Up to `tries` judgements of an open slot.
 pub(crate) fn judging(slot: u32, event: Event, tries: u32) -> Ahead
@@ -27,16 +45,8 @@ pub(crate) fn judging(slot: u32, event: Event, tries: u32) -> Ahead
     ensures valid { (who : ℕ) → caller_of event ≡ who → IsValidEvent event →
         IsValidAhead who result }
 {
-    if tries == 0 {
-        return Ahead::Broken;
-    }
-    Ahead::Awaiting {
-        event,
-        part: Part::Judging {
-            slot,
-            left: tries - 1,
-        },
-    }
+    let left = tries.saturating_sub(1);
+    first_try(event, tries, Part::Judging { slot, left })
 }
 
 /// Up to `tries` reads until one hits.
@@ -51,17 +61,8 @@ pub(crate) fn polling(event: Event, mask: u32, value: u32, tries: u32) -> Ahead
     ensures valid { (who : ℕ) → caller_of event ≡ who → IsValidEvent event →
         IsValidAhead who result }
 {
-    if tries == 0 {
-        return Ahead::Broken;
-    }
-    Ahead::Awaiting {
-        event,
-        part: Part::Polling {
-            mask,
-            value,
-            left: tries - 1,
-        },
-    }
+    let left = tries.saturating_sub(1);
+    first_try(event, tries, Part::Polling { mask, value, left })
 }
 
 /// Up to `tries` judgements of a stage's submission, and the stages after it.
@@ -77,16 +78,8 @@ pub(crate) fn stage_judging(event: Event, tries: u32, chain: Chain) -> Ahead
     ensures valid { (who : ℕ) → caller_of event ≡ who → IsValidEvent event → IsValidChain chain →
         IsValidAhead who result }
 {
-    if tries == 0 {
-        return Ahead::Broken;
-    }
-    Ahead::Awaiting {
-        event,
-        part: Part::StageJudging {
-            left: tries - 1,
-            chain,
-        },
-    }
+    let left = tries.saturating_sub(1);
+    first_try(event, tries, Part::StageJudging { left, chain })
 }
 
 /// The units of the stages.
