@@ -2,7 +2,7 @@
 use Rattle.std.proofs.Common.{◌≡◌, ℕ, ◌+◌, ◌-◌, ◌<◌, not, Bool, true, false, cond, if◌then◌else◌, ◌++◌, List, [], ◌∷◌, Ok, take, drop, get_or, length, codes, drop-cons, add-one, take-append-drop, refl, sym, ap, ◌∙◌, eq-eqb, arith}
 use Rattle.std.specs.Prelude.{◌==◌}
 use Rattle.std.specs.List.{concat}
-use Rattle.std.proofs.Math.Seq.{take-add}
+use Rattle.std.proofs.Math.Seq.{take-add, take-length, drop-length}
 use Rattle.std.proofs.lemmas.List.{append-nil, take_more, take_rest, drop-drop}
 use Rattle.std.proofs.lemmas.List.Sums.{passes_at_first}
 use Rattle.script_reader.specs.Text.{is_line_feed, line_end, first_line, words_of, without_last_line_feed}
@@ -43,14 +43,6 @@ line_ends bytes i h n e =
     e ∙ ap (λ bs. onto (take i bytes) (fed_lines bs)) (left_more bytes i h) ∙ ap (onto (take i bytes)) (line_feed b (drop (i + 1) bytes) n)
     ∙ onto_line (take i bytes) (b ∷ []) (fed_lines (drop (i + 1) bytes)) ∙ ap (λ bs. bs ∷ fed_lines (drop (i + 1) bytes)) (sym (take_more bytes i 0 h))
 
-pub take_all : (bytes : List ℕ) → take (length bytes) bytes ≡ bytes
-take_all [] = refl
-take_all (b ∷ bs) = ap (λ cs. b ∷ cs) (take_all bs)
-
-drop_all : (bytes : List ℕ) → drop (length bytes) bytes ≡ []
-drop_all [] = refl
-drop_all (b ∷ bs) = drop_all bs
-
 whole : (bytes : List ℕ) → 0 < length bytes → onto bytes [] ≡ bytes ∷ []
 whole [] h = absurd (omega (arith, h))
 whole (b ∷ bs) h = onto_none b bs
@@ -60,10 +52,10 @@ text_ends : (bytes : List ℕ) (i : ℕ) → 0 < length bytes → i ≡ length b
     → fed_lines bytes ≡ onto (take i bytes) (fed_lines (drop i bytes)) → fed_lines bytes ≡ take (length bytes) bytes ∷ fed_lines (drop (length bytes) bytes)
 text_ends bytes i h same e =
     e ∙ ap (λ n. onto (take n bytes) (fed_lines (drop n bytes))) same
-    ∙ ap (λ bs. onto (take (length bytes) bytes) (fed_lines bs)) (drop_all bytes)
-    ∙ ap (λ bs. onto bs []) (take_all bytes) ∙ whole bytes h
-    ∙ ap (λ bs. bs ∷ []) (sym (take_all bytes))
-    ∙ ap (λ bs. take (length bytes) bytes ∷ fed_lines bs) (sym (drop_all bytes))
+    ∙ ap (λ bs. onto (take (length bytes) bytes) (fed_lines bs)) (drop-length bytes)
+    ∙ ap (λ bs. onto bs []) (take-length bytes) ∙ whole bytes h
+    ∙ ap (λ bs. bs ∷ []) (sym (take-length bytes))
+    ∙ ap (λ bs. take (length bytes) bytes ∷ fed_lines bs) (sym (drop-length bytes))
 
 -- bytes that are no line feeds stand before the first of the other lines
 clear_onto : (xs ys : List ℕ) → clear is_line_feed xs ≡ true → fed_lines (xs ++ ys) ≡ onto xs (fed_lines ys)
@@ -112,6 +104,13 @@ pub line_at : (bytes : List ℕ) (start size : ℕ) → fed_lines (take (length 
 line_at bytes start size e =
     let rest = take_rest bytes start in
     ap fed_lines (sym rest) ∙ e ∙ ap (λ l. take size l ∷ fed_lines (drop size l)) rest ∙ ap (λ l. take size (drop start bytes) ∷ fed_lines l) (drop-drop size start bytes)
+
+-- what is told of the line as it was read is so of the line at its place
+pub heading_told : (bytes : List ℕ) (start size : ℕ) (line : List ℕ) (words : List (List ℕ)) (told b : Bool) → without_last_line_feed (take size (take (length bytes - start) (drop start bytes))) ≡ line
+    → words ≡ words_of line → told ≡ is_heading words (codes "report") → told ≡ b → is_heading (words_of (without_last_line_feed (take size (drop start bytes)))) (codes "report") ≡ b
+heading_told bytes start size line words told b bare read is answer =
+    let whole = sym bare ∙ ap (λ l. without_last_line_feed (take size l)) (take_rest bytes start) in
+    ap (λ ws. is_heading ws (codes "report")) (sym (read ∙ ap words_of whole)) ∙ sym is ∙ answer
 
 module _ (bytes : List ℕ) (start size n : ℕ) (parts : report_text_from (take start bytes) n (fed_lines (drop start bytes)) ≡ report_text_at bytes)
     (next : fed_lines (drop start bytes) ≡ take size (drop start bytes) ∷ fed_lines (drop (start + size) bytes)) where

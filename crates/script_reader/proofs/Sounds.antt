@@ -203,11 +203,12 @@ sound_closed Units s t next e i few follows sound step = absurd i
 sound_closed Finished s t next e i few follows sound step = absurd i
 
 -- a command was added, if memory didn't run out
-pub sound_pushed : {A : Type 0} (r : Result A StepError) (s : State) (n slot : ℕ) (new : OpenSection) (c : Command) → IsInSection s.place → IsSound s → IsGoodCommand n slot c → n ≡ length s.shapes
-    → slot ≡ length s.section.names → is_submit c ≡ false → Moves r new (Ok (with_command s.section c)) → OnOk r (IsSound (record s { section = new }))
-sound_pushed (Ok x) s n slot new c i sound good count slots other step =
-    sound_section s new i (section_pushed (length s.shapes) n slot s.section new c sound.section good count slots other step) sound
-sound_pushed (Err e) s n slot new c i sound good count slots other step = tt
+pub sound_pushed : {A : Type 0} (r : Result A StepError) (s now : State) (n slot : ℕ) (new : OpenSection) (c : Command) → s ≡ now → IsInSection now.place → IsSound now → IsGoodCommand n slot c
+    → n ≡ length s.shapes → slot ≡ length s.section.names → is_submit c ≡ false → Moves r new (Ok (with_command s.section c)) → OnOk r (IsSound (record s { section = new }))
+sound_pushed (Ok x) s now n slot new c same i sound good count slots other step =
+    let here : IsSound s = subst IsSound (sym same) sound in
+    sound_section s new (subst (λ (t : State). IsInSection t.place) (sym same) i) (section_pushed (length s.shapes) n slot s.section new c here.section good count slots other step) here
+sound_pushed (Err e) s now n slot new c same i sound good count slots other step = tt
 
 one_more : (names more : List (List ℕ)) (w : List ℕ) → with_name names w ≡ Ok more → length more ≡ length names + 1
 unfolding with_name
@@ -226,12 +227,13 @@ submitted (Ok more) commands slots new grows e =
 submitted (Err code) commands slots new grows e = absurd (let n : ⊥ = cc in n)
 
 -- a submission was added, if memory didn't run out
-pub sound_submitted : {A : Type 0} (r : Result A StepError) (s : State) (n slot : ℕ) (new : OpenSection) (c : Command) (name : List ℕ) → IsInSection s.place → IsSound s → IsGoodCommand n slot c
+pub sound_submitted : {A : Type 0} (r : Result A StepError) (s now : State) (n slot : ℕ) (new : OpenSection) (c : Command) (name : List ℕ) → s ≡ now → IsInSection now.place → IsSound now → IsGoodCommand n slot c
     → n ≡ length s.shapes → slot ≡ length s.section.names → is_submit c ≡ true → Moves r new (with_submission s.section c name) → OnOk r (IsSound (record s { section = new }))
-sound_submitted (Ok x) s n slot new c name i sound good count slots submits step =
+sound_submitted (Ok x) s now n slot new c name same i sound good count slots submits step =
+    let here : IsSound s = subst IsSound (sym same) sound in
     let parts = submitted (with_name s.section.names name) (s.section.commands ++ c ∷ []) (length s.section.names) new (λ more e. one_more s.section.names more name e) step in
-    sound_section s new i (section_submitted (length s.shapes) n slot s.section new c sound.section good count slots submits parts.0 parts.1) sound
-sound_submitted (Err e) s n slot new c name i sound good count slots submits step = tt
+    sound_section s new (subst (λ (t : State). IsInSection t.place) (sym same) i) (section_submitted (length s.shapes) n slot s.section new c here.section good count slots submits parts.0 parts.1) here
+sound_submitted (Err e) s now n slot new c name same i sound good count slots submits step = tt
 
 -- ---- what callers learn
 

@@ -223,7 +223,7 @@ impl<'a> Reader<'a> {
         if words.len() != 2 {
             return Err(StepError::Code(MISSHAPEN));
         }
-        let _number = number(words.word(1))?;
+        number(words.word(1))?;
         self.close(alloc, ScriptPart::Lane)
     }
 

@@ -1,6 +1,9 @@
 // Reads the input of a live update: its headings, and the lines between them.
-ghost use Rattle.std.specs.Prelude.{◌≡◌, ◌+◌, ◌≤◌, ◌<◌, ℕ, length, IfOk};
-ghost use Rattle.script_reader.specs.Text.{words_of};
+ghost use Rattle.std.specs.Prelude.{◌≡◌, ◌+◌, ◌≤◌, ◌<◌, ℕ, length, not, if◌then◌else◌, IfOk};
+ghost use Rattle.std.specs.List.{list_all};
+ghost use Rattle.script_reader.specs.Codes.{not_plain};
+ghost use Rattle.script_reader.specs.Lines.{is_skipped};
+ghost use Rattle.script_reader.specs.Text.{is_plain, words_of};
 ghost use Rattle.script_reader.specs.Outcomes.{Gives};
 ghost use Rattle.script_reader.specs.Answers.{Reads};
 ghost use Rattle.script_reader.specs.UpdateTexts as spec;
@@ -99,15 +102,23 @@ fn wants(wanted: ExpectedPart, text: UpdateText) -> Result<UpdateReader, StepErr
     Ok(UpdateReader { wanted, text })
 }
 
+/// Whether a line is skipped. One that isn't plain is refused.
+fn is_skipped_line(words: &Words<'_>, line: &[u8]) -> Result<bool, StepError>
+    ensures { Gives result
+        (if not (list_all is_plain line.now) then Err not_plain else Ok (is_skipped words.now)) }
+{
+    if !text::is_plain_line(line, false) {
+        return Err(StepError::Code(NOT_PLAIN));
+    }
+    Ok(is_skipped(words))
+}
+
 #[tactic(auto, unfolding(crate::specs::UpdateTexts::old_step))]
 fn old_line(text: UpdateText, words: &Words<'_>, line: &[u8]) -> Result<UpdateReader, StepError>
     requires { words.now ≡ words_of line.now }
     ensures { Gives result (spec.old_step text line.now) }
 {
-    if !text::is_plain_line(line, false) {
-        return Err(StepError::Code(NOT_PLAIN));
-    }
-    if is_skipped(words) {
+    if is_skipped_line(words, line)? {
         return wants(ExpectedPart::Old, text);
     }
     if !is_heading(words, b"old") {
@@ -160,10 +171,7 @@ fn lanes_line(
     requires words { words.now ≡ words_of line.now }
     ensures { Gives result (spec.lanes_step text number line.now) }
 {
-    if !text::is_plain_line(line, false) {
-        return Err(StepError::Code(NOT_PLAIN));
-    }
-    if is_skipped(words) {
+    if is_skipped_line(words, line)? {
         return wants(ExpectedPart::Lanes, text);
     }
     if !is_heading(words, b"lanes") {
@@ -178,10 +186,7 @@ fn last_line(text: UpdateText, words: &Words<'_>, line: &[u8]) -> Result<UpdateR
     requires { words.now ≡ words_of line.now }
     ensures { Gives result (spec.nothing_step text line.now) }
 {
-    if !text::is_plain_line(line, false) {
-        return Err(StepError::Code(NOT_PLAIN));
-    }
-    if !is_skipped(words) {
+    if !is_skipped_line(words, line)? {
         return Err(StepError::Code(MISPLACED));
     }
     wants(ExpectedPart::Nothing, text)

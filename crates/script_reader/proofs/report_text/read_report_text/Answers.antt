@@ -1,10 +1,8 @@
 -- The heading parts the input.
-use Rattle.std.proofs.Common.{◌≡◌, ◌+◌, true, false, Ok, codes, take, drop, length, length-drop, sym, ap, ◌∙◌, arith}
+use Rattle.std.proofs.Common.{◌+◌, true, false, Ok, take, length, length-drop, sym, ap, ◌∙◌, arith}
 use Rattle.std.proofs.lemmas.List.{take_rest}
-use Rattle.script_reader.specs.Text.{words_of, without_last_line_feed}
-use Rattle.script_reader.specs.UpdateTexts.{is_heading}
 use Rattle.script_reader.specs.ReportTexts.{ReportTextOf}
-use Rattle.script_reader.proofs.FedLines.{line_at, heading_at, no_heading_at}
+use Rattle.script_reader.proofs.FedLines.{line_at, heading_told, heading_at, no_heading_at}
 use Rattle.script_reader.proofs.report_text.read_report_text.Goals as goal
 
 pub returns-then-is_heading-clause-read : goal.returns-then-is_heading-clause-read
@@ -13,9 +11,7 @@ returns-then-is_heading-clause-read c =
     let start = c.loop-start.start in
     let size = c.fed_length.result in
     let next = line_at bytes start size c.fed_length.ensures.line in
-    let words = c.read.ensures.words ∙ ap words_of (sym c.fed_length.ensures.bare ∙ ap (λ l. without_last_line_feed (take size l)) (take_rest bytes start)) in
-    let heading : is_heading (words_of (without_last_line_feed (take size (drop start bytes)))) (codes "report") ≡ true =
-    ap (λ ws. is_heading ws (codes "report")) (sym words) ∙ sym c.is_heading.ensures ∙ c.if-is_heading.true in
+    let heading = heading_told bytes start size _ _ c.is_heading.result true c.fed_length.ensures.bare c.read.ensures.words c.is_heading.ensures c.if-is_heading.true in
     heading_at bytes start size c.loop-start.number c.loop-start.invariant.parts next heading
     ∙ ap (λ bs. Ok (let t : ReportTextOf = record { script = take start bytes; heading = c.loop-start.number; report = bs } in t)) (sym (take_rest bytes (start + size)))
 
@@ -25,9 +21,7 @@ loop-start-preserved c =
     let start = c.loop-start.start in
     let size = c.fed_length.result in
     let next = line_at bytes start size c.fed_length.ensures.line in
-    let words = c.read.ensures.words ∙ ap words_of (sym c.fed_length.ensures.bare ∙ ap (λ l. without_last_line_feed (take size l)) (take_rest bytes start)) in
-    let heading : is_heading (words_of (without_last_line_feed (take size (drop start bytes)))) (codes "report") ≡ false =
-    ap (λ ws. is_heading ws (codes "report")) (sym words) ∙ sym c.is_heading.ensures ∙ c.if-is_heading.false in
+    let heading = heading_told bytes start size _ _ c.is_heading.result false c.fed_length.ensures.bare c.read.ensures.words c.is_heading.ensures c.if-is_heading.false in
     let some = c.fed_length.ensures.some in
     let few = c.fed_length.ensures.few in
     let number = c.loop-start.invariant.few in
