@@ -1,39 +1,34 @@
 -- The number that a text begins with, before a space.
-use Rattle.std.proofs.Common.{◌≡◌, ◌⊎◌, ℕ, Bool, true, false, zero, suc, ◌+◌, ◌<◌, ◌≤◌, ◌++◌, List, [], ◌∷◌, None, Some, length, get_or, drop, decimal, codes, refl, sym, ap, subst, ◌∙◌, arith, inl, inr, append_assoc, length-append, ◌/◌, ◌-◌}
+use Rattle.std.proofs.Common.{◌≡◌, ◌⊎◌, ℕ, Bool, true, false, zero, suc, ◌+◌, ◌<◌, ◌≤◌, ◌++◌, List, [], ◌∷◌, None, Some, length, get_or, drop, decimal, codes, refl, sym, ap, subst, ◌∙◌, arith, inl, inr, append_assoc, length-append, ◌/◌, ◌%◌, ◌*◌, ◌-◌, cond}
 use Rattle.std.proofs.Math.Seq.{drop-append_seam}
-use Rattle.std.specs.Fmt.{digits}
-use Rattle.std.specs.Prelude.{◌&&◌, nat_le, if◌then◌else◌}
+use Rattle.std.specs.Fmt.{digits, digits_onto, digit_glyph}
+use Rattle.std.specs.Prelude.{◌&&◌, ◌==◌, nat_le, if◌then◌else◌}
 use Rattle.std.proofs.lemmas.Bool.{le-leb}
+use Rattle.std.proofs.lemmas.Bool.Decides.{nat_tests}
 use Rattle.audit_reader.specs.Digits.{digit_at}
 use Rattle.event_words.specs.declared.record.LoggedEvent.{LoggedEvent}
 use Rattle.event_words.specs.Events.{caller_of}
 use Rattle.event_words.specs.Texts.{event_text, reply_text}
 use Rattle.event_words.specs.ReportLines.{event_line}
 
-one_digit : (n : ℕ) → n < 10 → decimal n ≡ (48 + n) ∷ []
+glyph_of : (n : ℕ) → n < 10 → digit_glyph false n ≡ 48 + n
+glyph_of n h = grind (arith, nat_tests)
+
+-- the last digit of a number, and those before it
+last_digit : (tens n : ℕ) → n < 10 → decimal (10 * tens + n) ≡ cond (tens == 0) ((48 + n) ∷ []) (digits_onto 63 10 false tens ((48 + n) ∷ []))
 unfolding digits
-one_digit zero h = refl
-one_digit (suc zero) h = refl
-one_digit (suc (suc zero)) h = refl
-one_digit (suc (suc (suc zero))) h = refl
-one_digit (suc (suc (suc (suc zero)))) h = refl
-one_digit (suc (suc (suc (suc (suc zero))))) h = refl
-one_digit (suc (suc (suc (suc (suc (suc zero)))))) h = refl
-one_digit (suc (suc (suc (suc (suc (suc (suc zero))))))) h = refl
-one_digit (suc (suc (suc (suc (suc (suc (suc (suc zero)))))))) h = refl
-one_digit (suc (suc (suc (suc (suc (suc (suc (suc (suc zero))))))))) h = refl
-one_digit (suc (suc (suc (suc (suc (suc (suc (suc (suc (suc n)))))))))) h = absurd (omega (arith, h))
+last_digit tens n h =
+    let before : (10 * tens + n) / 10 ≡ tens = omega arith in
+    let last : (10 * tens + n) % 10 ≡ n = omega arith in
+    ap (λ q. cond (q == 0) (digit_glyph false ((10 * tens + n) % 10) ∷ []) (digits_onto 63 10 false q (digit_glyph false ((10 * tens + n) % 10) ∷ []))) before
+    ∙ ap (λ d. cond (tens == 0) (digit_glyph false d ∷ []) (digits_onto 63 10 false tens (digit_glyph false d ∷ []))) last
+    ∙ ap (λ b. cond (tens == 0) (b ∷ []) (digits_onto 63 10 false tens (b ∷ []))) (glyph_of n h)
+
+one_digit : (n : ℕ) → n < 10 → decimal n ≡ (48 + n) ∷ []
+one_digit n h = let same : n ≡ 10 * 0 + n = omega arith in ap decimal same ∙ last_digit 0 n h
 
 two_digits : (n : ℕ) → n < 7 → decimal (10 + n) ≡ 49 ∷ (48 + n) ∷ []
-unfolding digits
-two_digits zero h = refl
-two_digits (suc zero) h = refl
-two_digits (suc (suc zero)) h = refl
-two_digits (suc (suc (suc zero))) h = refl
-two_digits (suc (suc (suc (suc zero)))) h = refl
-two_digits (suc (suc (suc (suc (suc zero))))) h = refl
-two_digits (suc (suc (suc (suc (suc (suc zero)))))) h = refl
-two_digits (suc (suc (suc (suc (suc (suc (suc n))))))) h = absurd (omega (arith, h))
+two_digits n h = last_digit 1 n (omega (arith, h))
 
 -- a text that begins with a number below 17 and a space
 abbrev pub Begins : ℕ → List ℕ → Type 0

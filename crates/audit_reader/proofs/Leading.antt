@@ -1,7 +1,8 @@
 -- The number that a text begins with.
-use Rattle.std.proofs.Common.{◌≡◌, ℕ, zero, suc, ◌+◌, ◌*◌, ◌^◌, ◌<◌, ◌≤◌, List, [], ◌∷◌, ◌++◌, Option, Some, None, length, drop, get_or, decimal, codes, refl, sym, ap, ◌∙◌, arith, drop-cons, add-one}
+use Rattle.std.proofs.Common.{◌≡◌, ℕ, ◌+◌, ◌*◌, ◌^◌, ◌<◌, ◌≤◌, List, [], ◌∷◌, ◌++◌, Option, Some, None, length, drop, get_or, decimal, codes, refl, sym, ap, ◌∙◌, arith, drop-cons, add-one}
 use Rattle.std.specs.Char.{digit_value}
 use Rattle.std.specs.Str.Parse.{AllDigits, digits_value_after}
+use Rattle.std.proofs.lemmas.List.{at_drop_all}
 use Rattle.std.proofs.lemmas.Fmt.{decimal_is_IsNumeral}
 use Rattle.std.proofs.lemmas.Str.{digit_value_digit}
 use Rattle.std.proofs.lemmas.Str.Parse.{digit_from_value}
@@ -31,13 +32,7 @@ pub more : (number i : ℕ) (text : List ℕ) → i < length text → leading nu
 more number i text h = ap (leading number) (drop-cons text i 0 h ∙ ap (λ n. get_or text i 0 ∷ drop n text) (sym (add-one i)))
 
 pub at_end : (number i : ℕ) (text : List ℕ) → length text ≤ i → leading number (drop i text) ≡ number
-at_end number i text h = ap (leading number) (dropped text i h)
-  where
-    dropped : (bs : List ℕ) (n : ℕ) → length bs ≤ n → drop n bs ≡ []
-    dropped [] zero l = refl
-    dropped [] (suc n) l = refl
-    dropped (b ∷ bs) zero l = absurd (omega (arith, l))
-    dropped (b ∷ bs) (suc n) l = dropped bs n (omega (arith, l))
+at_end number i text h = at_drop_all (leading number) text i h
 
 digit_is : (c : ℕ) → digit_value c < 10 → digit_at c ≡ Some (digit_value c)
 digit_is c h = let same = digit_value_digit c (digit_from_value c h) in digit_of c (digit_value c) h (omega (arith, same))

@@ -16,6 +16,7 @@ use Rattle.event_words.specs.ReportLines.{count_line, event_line, section_line}
 use Rattle.unit_core.specs.Reports.{section_lines, unit_line, unit_lines, report_text}
 use Rattle.script_reader.specs.Scripts.{ScriptOf}
 use Rattle.script_reader.specs.ReportTexts.{fed_lines, with_byte}
+use Rattle.script_reader.proofs.FedLines.{concat_fed}
 use Rattle.audit_reader.specs.ReportLines.{report_lines, end_lines, error_lines}
 use Rattle.audit_reader.specs.Beginnings.{BeginsRecord, BeginRecords, IsLegalSoFar}
 use Rattle.audit_reader.specs.declared.answer.Audit.{Audit}
@@ -26,7 +27,7 @@ use Rattle.audit_reader.specs.Following.{AreRead, IsFound, LinesAnswer}
 use Rattle.audit_reader.proofs.OneMore.{boot_first}
 use Rattle.audit_reader.proofs.GoodLines.{last_lines}
 use Rattle.audit_reader.proofs.HistoryLengths.{legal_is_short}
-use Rattle.audit_reader.proofs.WholeLines.{IsLine, fed_concat, concat_fed}
+use Rattle.audit_reader.proofs.WholeLines.{IsLine, fed_concat}
 use Rattle.audit_reader.proofs.LinesOfReports.{events_are_lines, count_is_line, section_is_line, unit_is_line, last_is_line}
 
 -- ---- the lines joined

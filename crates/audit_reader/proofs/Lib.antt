@@ -8,6 +8,7 @@ pub mod OneMore
 pub mod GoodLines
 pub mod LegalReports
 pub mod WholeReports
+pub mod LastAnswers
 pub mod Coming
 pub mod Starting
 pub mod AuditSteps

@@ -1,20 +1,16 @@
 -- A text that another begins with.
-use Rattle.std.proofs.Common.{◌≡◌, ℕ, zero, suc, ◌<◌, ◌-◌, arith, ◌++◌, Bool, true, false, List, [], ◌∷◌, length, take, drop, refl, sym, ap, ◌∙◌, length-drop}
+use Rattle.std.proofs.Common.{◌≡◌, ℕ, zero, suc, ◌<◌, ◌-◌, arith, ◌++◌, Bool, true, false, List, length, take, drop, refl, sym, ap, ◌∙◌, length-drop}
 use Rattle.std.specs.Prelude.{not, ◌==◌}
 use Rattle.std.proofs.lemmas.Bool.{eq-eqb, eqb-true}
 use lib.Pointwise.{pointwise}
 use lib.Dec.{eqb}
 use Rattle.std.specs.Cmp.Lexicographic.{same_text, other_text}
-use Rattle.std.proofs.Math.Seq.{take-append_seam}
+use Rattle.std.proofs.Math.Seq.{take-append_seam, take-length}
 use Rattle.std.proofs.lemmas.List.{take-append-drop}
-
-pub take_all : (bytes : List ℕ) → take (length bytes) bytes ≡ bytes
-take_all [] = refl
-take_all (b ∷ bs) = ap (λ cs. b ∷ cs) (take_all bs)
 
 -- the part of a text from a place on
 pub part_from : (front text : List ℕ) → take (length text - length front) (drop (length front) text) ≡ drop (length front) text
-part_from front text = ap (λ n. take n (drop (length front) text)) (sym (length-drop (length front) text)) ∙ take_all (drop (length front) text)
+part_from front text = ap (λ n. take n (drop (length front) text)) (sym (length-drop (length front) text)) ∙ take-length (drop (length front) text)
 
 pub front_of : (text front rest : List ℕ) → text ≡ front ++ rest → take (length front) text ≡ front
 front_of text front rest e = ap (take (length front)) e ∙ take-append_seam front rest

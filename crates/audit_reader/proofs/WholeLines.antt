@@ -11,6 +11,7 @@ use Rattle.std.proofs.lemmas.Str.{digit_value-digit_char}
 use Rattle.event_words.specs.Texts.{hexadecimal}
 use Rattle.event_words.proofs.Numerals.{decimal_numeral}
 use Rattle.script_reader.specs.ReportTexts.{fed_lines, with_byte}
+use Rattle.script_reader.proofs.FedLines.{concat_fed}
 
 -- ---- texts without a line feed
 
@@ -110,16 +111,6 @@ fed_line line r l =
 pub fed_concat : (lines : List (List ℕ)) → AllByRecursion IsLine lines → fed_lines (concat lines) ≡ lines
 fed_concat [] h = refl
 fed_concat (line ∷ lines) h = fed_line line (concat lines) h.0 ∙ ap (λ ls. line ∷ ls) (fed_concat lines h.1)
-
--- the lines of a text are the text
-pub concat_fed : (bytes : List ℕ) → concat (fed_lines bytes) ≡ bytes
-concat_fed [] = refl
-concat_fed (b ∷ bs) = by (b == 10) (fed_lines bs) (concat_fed bs)
-  where
-    by : (t : Bool) (ls : List (List ℕ)) → concat ls ≡ bs → concat (cond t ((b ∷ []) ∷ ls) (with_byte b ls)) ≡ b ∷ bs
-    by true ls e = ap (λ cs. b ∷ cs) e
-    by false [] e = ap (λ cs. b ∷ cs) e
-    by false (l ∷ ls) e = ap (λ cs. b ∷ cs) e
 
 -- a text begins with its first line
 pub begins_with : (text line : List ℕ) (rest : List (List ℕ)) → fed_lines text ≡ line ∷ rest → text ≡ line ++ concat rest
