@@ -9,7 +9,7 @@ ghost use Rattle.event_words.specs.Records.{wide_event};
 ghost use Rattle.event_words.specs.Sections.{IsBelow, IsValidStages, stage_units, submission_events};
 ghost use Rattle.shared_log.specs.Words.{AllEventWords};
 ghost use Rattle.shared_log.specs.Callers.{Belongs};
-ghost use Rattle.checker_workers.specs.Ports.{IsAtReset, MakesEvent, unit_count, is_value};
+ghost use Rattle.checker_workers.specs.Ports.{IsAtReset, MakesEvent, unit_count, port_events, is_value};
 ghost use Rattle.checker_workers.specs.Tickets.{IsOpenTicket, Judges, BearsTicket, HandsOut, MakesSubmission, is_submit_reply, submitted_reply, last_ticket};
 ghost use Rattle.checker_workers.specs.Pieces.{PlaysThrough};
 ghost use Rattle.checker_workers.specs.Told.{own_replies, HasRoom, IsTold};
@@ -60,11 +60,11 @@ impl Port {
         Port { caller, told: None }
     }
 
-    /// The same before its first event, which keeps the replies to its caller's events in this list, for
-    /// which there is room.
+    /// The same where its caller made no event yet. The port keeps the replies to its caller's events in this
+    /// list, in which there is room for them.
     pub fn telling(caller: Caller<Fabric>, replies: Vec<Reply>) -> Port
         requires reset { IsAtReset caller.first }
-        requires none { caller.log ≡ [] }
+        requires none { port_events caller ≡ [] }
         requires empty { replies.items ≡ [] }
         requires room { vec_len replies + caller.left ≤ vec_capacity replies }
         ensures { result ≡ caller }
