@@ -1,6 +1,6 @@
 pub mod UnitLines
 pub mod PlayedSections
-pub mod ToldReplies
+pub mod MergedReplies
 pub mod ToldCodes
 pub mod NoCommands
 pub mod UpdateRefusals

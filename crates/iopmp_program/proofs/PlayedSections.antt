@@ -1,5 +1,5 @@
 -- Lanes that play the sections of a script make a legal history.
-use Rattle.std.proofs.Common.{◌≡◌, ℕ, suc, ◌+◌, ◌<◌, ◌≤◌, List, [], ◌∷◌, ◌++◌, length, map, get_or, refl, sym, ap, ◌∙◌, subst, arith, zero-add, Some, Option, lt_of_not-le, ◌/◌, max, length-append}
+use Rattle.std.proofs.Common.{◌≡◌, ℕ, suc, ◌+◌, ◌*◌, ◌<◌, ◌≤◌, List, [], ◌∷◌, ◌++◌, length, map, get_or, refl, sym, ap, ◌∙◌, subst, arith, zero-add, Some, Option, lt_of_not-le, ◌/◌, max, length-append}
 use Rattle.std.proofs.Math.ListN.{get_or-append}
 use Rattle.std.proofs.Math.Seq.{get_or-append_seam}
 use Rattle.std.proofs.lemmas.List.{length-map, map-append}
@@ -12,10 +12,10 @@ use Rattle.event_words.specs.declared.record.LoggedEvent.{LoggedEvent}
 use Rattle.event_words.specs.declared.record.SectionEnd.{SectionEnd}
 use Rattle.event_words.specs.Runs.{caller_of_word, logged}
 use Rattle.event_words.specs.Records.{section_end, events_by}
-use Rattle.event_words.specs.Sections.{SectionOf, most_section_events, NamesOnlyUnits}
+use Rattle.event_words.specs.Sections.{SectionOf, most_section_events, IsValidSection, NamesOnlyUnits}
 use Rattle.script_reader.specs.Scripts.{ScriptOf, most_from, need_of}
 use Rattle.unit_core.specs.Units.{FabricState, fabric_at_reset}
-use Rattle.unit_core.specs.Fabrics.{state_after_word, reply_to_word}
+use Rattle.unit_core.specs.Fabrics.{FabricView, state_after_word, reply_to_word}
 use Rattle.unit_core.specs.Histories.{IsBoot, IsOfLane, BootComesFirst, HasRecord, HaveRecords, IsLegalHistory, logged_in}
 use Rattle.shared_log.specs.Words.{words_by, AllEventWords}
 use Rattle.shared_log.specs.Callers.{SharedView, Belongs}
@@ -29,7 +29,7 @@ use Rattle.checker_workers.specs.declared.lane.LaneEnd.TheVariants.{Fresh}
 use Rattle.checker_workers.proofs.Turns.{belongs_still}
 use Rattle.shared_log.specs.Callers.{KeepsBudget}
 use Rattle.iopmp_program.specs.declared.playing.players.Player.{Player}
-use Rattle.iopmp_program.specs.PlayedSections.{player_of, section_of, HasAtMost, HasFreshReplica, HasSection, MayAllPlay, MayBePlayed, HasPlayed, IsFirstCaller, MaySplit, IsReadyLane, AreReadyLanes, RunsTo}
+use Rattle.iopmp_program.specs.PlayedSections.{section_of, HasAtMost, IsPlayer, IsReadyPlayer, MayAllPlay, MayBePlayed, HasPlayed, IsFirstCaller, MaySplit, IsReadyLane, AreReadyLanes, RunsTo}
 
 -- ---- the record of a caller, in the history
 
@@ -128,7 +128,7 @@ played first number section l m section_is number_is first_is none r =
       record_is = subst (λ xs. IsSome (section_end number section xs)) (sym made) (subst (λ (o : Option SectionEnd). IsSome o) (sym ended) refl);
     }
 
-no_events : (p : PortView) → p.log ≡ [] → port_events p ≡ []
+pub no_events : (p : PortView) → p.log ≡ [] → port_events p ≡ []
 no_events p none = ap (λ (words : List ℕ). events_by p.number (logged state_after_word reply_to_word p.first words)) none
 
 pub boot_first_still : (shared : SharedView) (p : PortView) (section : SectionOf) (l m : LaneView) → IsFirstCaller shared p → l ≡ record { section = section; port = p; ended = Fresh } → Runs l m
@@ -259,18 +259,26 @@ may_play section boot p n budget is count left may =
       enough = let e = may.enough in omega arith;
     })
 
-pub players_fresh : (shapes : List Shape) (places room : ℕ) (first : FabricState) (ss : List SectionOf) → first ≡ fabric_at_reset shapes → room ≤ places
-    → AllByRecursion (HasFreshReplica first room) (map (player_of shapes places) ss)
-players_fresh shapes places room first [] is fits = tt
-players_fresh shapes places room first (s ∷ ss) is fits = (record { state = sym is; next = refl; enough = fits }, players_fresh shapes places room first ss is fits)
+pub all_may_play : (units budget : ℕ) (ss : List SectionOf) → AllByRecursion IsValidSection ss → AllByRecursion (NamesOnlyUnits units) ss → AllByRecursion (HasAtMost budget) ss → MayAllPlay units budget ss
+all_may_play units budget [] valid there few = tt
+all_may_play units budget (s ∷ ss) valid there few = (record { valid = valid.0; units_there = there.0; enough = few.0 }, all_may_play units budget ss valid.1 there.1 few.1)
 
-pub players_may_play : (shapes : List Shape) (places units budget : ℕ) (ss : List SectionOf) → MayAllPlay units budget ss → AllByRecursion (HasSection units budget) (map (player_of shapes places) ss)
-players_may_play shapes places units budget [] may = tt
-players_may_play shapes places units budget (s ∷ ss) may = (may.0, players_may_play shapes places units budget ss may.1)
-
-pub sections_of_players : (shapes : List Shape) (places : ℕ) (ss : List SectionOf) → map section_of (map (player_of shapes places) ss) ≡ ss
-sections_of_players shapes places [] = refl
-sections_of_players shapes places (s ∷ ss) = ap (λ more. s ∷ more) (sections_of_players shapes places ss)
+pub players_ready : (shared : SharedView) (shapes : List Shape) (places budget : ℕ) (first : FabricState) (players : List Player) → first ≡ fabric_at_reset shapes → shared.callers * shared.budget ≤ places → shared.budget ≡ budget
+    → MayAllPlay (length first.units) shared.budget (map section_of players) → AllByRecursion (IsPlayer shapes places budget) players → AllByRecursion (IsReadyPlayer shared first) players
+players_ready shared shapes places budget first [] is fits same may made = tt
+players_ready shared shapes places budget first (p ∷ ps) is fits same may made = (
+  record {
+    replica = record {
+      state = ap (λ (f : FabricView). f.state) made.0.replica ∙ sym is;
+      next = ap (λ (f : FabricView). f.next) made.0.replica;
+      enough = let e : p.replica.places ≡ places = ap (λ (f : FabricView). f.places) made.0.replica in omega (arith, e, fits);
+    };
+    may = may.0;
+    empty = made.0.empty;
+    room = let room = made.0.room in omega (arith, room, same);
+  },
+  players_ready shared shapes places budget first ps is fits same may.1 made.1,
+)
 
 pub all_ran : (shared : SharedView) (first : FabricState) (sections : List SectionOf) (lanes : List LaneView) (rest : List PortView) → AreReadyLanes shared first sections lanes
     → ((k : ℕ) (l : LaneView) (c : PortView) → k < length lanes → RunsTo (slice_index_or lanes k l) (slice_index_or rest k c))

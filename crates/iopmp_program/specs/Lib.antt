@@ -1,6 +1,8 @@
 -- What a call of the program gives: how it is asked, what each command answers, and how it ends.
 pub mod Replays
 pub mod ToldHistories
+pub mod KeptReplies
+pub mod MergedReplies
 pub mod StatusCodes
 pub mod ScriptNumbers
 pub mod CommandWords

@@ -1,5 +1,5 @@
 -- Callers that play the sections of a script.
-use Rattle.std.specs.Prelude.{◌≡◌, ℕ, ◌+◌, ◌<◌, ◌≤◌, List, [], length, slice_index_or}
+use Rattle.std.specs.Prelude.{◌≡◌, ℕ, ◌+◌, ◌*◌, ◌<◌, ◌≤◌, List, [], length, slice_index_or, vec_capacity}
 use Rattle.std.specs.List.{AllByRecursion}
 use Rattle.event_words.specs.declared.shape.Shape.{Shape}
 use Rattle.event_words.specs.Sections.{SectionOf, IsValidSection, NamesOnlyUnits, most_section_events}
@@ -13,9 +13,11 @@ use Rattle.checker_workers.specs.Ports.{PortView, IsAtReset, port_events}
 use Rattle.checker_workers.specs.Lanes.{LaneView, Runs}
 use Rattle.iopmp_program.specs.declared.playing.players.Player.{Player}
 
--- the player of a section, with a replica of units at reset that has so many places
-abbrev pub player_of : List Shape → ℕ → SectionOf → Player
-player_of shapes places section = record { section = section; replica = opening shapes places }
+-- A player with a replica of units at reset that has so many places, and with room for so many replies.
+pub record IsPlayer (shapes : List Shape) (places budget : ℕ) (player : Player) : Type 0 where
+  pub replica : player.replica ≡ opening shapes places
+  pub empty : player.replies.items ≡ []
+  pub room : budget ≤ vec_capacity player.replies
 
 abbrev pub section_of : Player → SectionOf
 section_of player = player.section
@@ -25,9 +27,6 @@ pub record IsFreshReplica (first : FabricState) (places : ℕ) (fabric : FabricV
   pub state : fabric.state ≡ first
   pub next : fabric.next ≡ 0
   pub enough : places ≤ fabric.places
-
-abbrev pub HasFreshReplica : FabricState → ℕ → Player → Type 0
-HasFreshReplica first places player = IsFreshReplica first places player.replica
 
 -- A caller with this number made a whole record of the section, on units that were in this state at first.
 pub record HasPlayed (first : FabricState) (number : ℕ) (section : SectionOf) (c : PortView) : Type 0 where
@@ -62,8 +61,12 @@ pub record MayBePlayed (units budget : ℕ) (section : SectionOf) : Type 0 where
 abbrev pub MayAllPlay : ℕ → ℕ → List SectionOf → Type 0
 MayAllPlay units budget sections = AllByRecursion (MayBePlayed units budget) sections
 
-abbrev pub HasSection : ℕ → ℕ → Player → Type 0
-HasSection units budget player = MayBePlayed units budget player.section
+-- A player of a section that may be played on this log, on units that were in this state at first.
+pub record IsReadyPlayer (shared : SharedView) (first : FabricState) (player : Player) : Type 0 where
+  pub replica : IsFreshReplica first (shared.callers * shared.budget) player.replica
+  pub may : MayBePlayed (length first.units) shared.budget player.section
+  pub empty : player.replies.items ≡ []
+  pub room : shared.budget ≤ vec_capacity player.replies
 
 -- A fresh lane of this section, whose caller has this number and made no event yet.
 pub record IsReadyLane (shared : SharedView) (first : FabricState) (number : ℕ) (section : SectionOf) (lane : LaneView) : Type 0 where

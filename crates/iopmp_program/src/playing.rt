@@ -1,47 +1,78 @@
 // A script played by its lanes on one shared log.
-ghost use Rattle.std.specs.Prelude.{◌≡◌, ◌+◌, ◌*◌, ◌<◌, ◌≤◌, ℕ, [], All, length, map, IfOk, slice_index_or};
+ghost use Rattle.std.specs.Prelude.{◌≡◌, ◌+◌, ◌*◌, ◌<◌, ◌≤◌, ℕ, [], All, length, map, IfOk, slice_index_or, vec_capacity};
 ghost use Rattle.std.specs.List.{AllByRecursion};
 ghost use Rattle.event_words.specs.Valid.{IsValidShape};
 ghost use Rattle.script_reader.specs.Scripts.{IsWellFormedScript, need_of};
 ghost use Rattle.unit_core.specs.Histories.{IsLegalHistory};
-ghost use Rattle.checker_workers.specs.Ports.{PortView, unit_count};
+ghost use Rattle.checker_workers.specs.Ports.{PortView};
 ghost use Rattle.checker_workers.specs.Lanes.{LaneView, MayPlay, MayRun};
-ghost use Rattle.iopmp_program.specs.PlayedSections.{IsFreshReplica, HasFreshReplica, HasSection, section_of, HasPlayed, IsFirstCaller, MaySplit, MayBePlayed, MayAllPlay, IsReadyLane, AreReadyLanes, RunsTo, port_of};
+ghost use Rattle.iopmp_program.specs.PlayedSections.{section_of, HasPlayed, IsFirstCaller, MaySplit, MayBePlayed, MayAllPlay, IsReadyPlayer, IsReadyLane, AreReadyLanes, RunsTo, port_of};
+ghost use Rattle.iopmp_program.specs.KeptReplies.{IsKept, AreKept};
+ghost use Rattle.iopmp_program.specs.MergedReplies.{IsToldBy};
+ghost use Rattle.iopmp_program.specs.ToldHistories.{IsToldOf};
 
-pub mod alone;
 pub mod beside;
 mod budgets;
 mod players;
 pub mod reported;
+mod seen;
 
 use crate::memory::NoMemory;
+use crate::reports::told::{Seen, Told, told_or_replayed};
 use budgets::budget;
 use checker_workers::{Gate, Lane, Port, play_section, run_lanes};
-use event_words::Section;
-use players::{Player, make_players};
+use event_words::{Reply, Section, Shape};
+use players::{Player, copy_sections, make_players};
 use script_reader::Script;
+use seen::seen_by;
 use shared_log::{Caller, History, Shared, close, split};
-use std::alloc::{AllocError, Global};
+use std::alloc::Global;
 use std::thread::Threads;
 use unit_core::Fabric;
 
-/// Plays the boot section by the first caller.
+/// A history, and what the units told of it.
+#[derive(Drop)]
+pub struct ToldHistory {
+    pub history: History,
+    pub told: Told,
+}
+
+/// The callers of lanes that ran, and for each the replies to its events, where it kept them.
+#[derive(Drop)]
+struct Callers {
+    rest: Vec<Caller<Fabric>>,
+    kept: Vec<Option<Vec<Reply>>>,
+}
+
+/// A history, the replies that each of its callers kept, and what one of them saw.
+#[derive(Drop)]
+struct Closed {
+    history: History,
+    kept: Vec<Option<Vec<Reply>>>,
+    seen: Seen,
+}
+
+/// Plays the boot section by the first caller, and keeps the replies in this list where it can.
 fn play_boot<G: Gate>(
     alloc: Global,
     shared: &Shared,
     first: Caller<Fabric>,
+    replies: Vec<Reply>,
     section: &Section,
     gate: &G,
-) -> Result<Caller<Fabric>, NoMemory>
+) -> Result<(Caller<Fabric>, Option<Vec<Reply>>), NoMemory>
     requires first { IsFirstCaller shared.now first }
     requires none { first.log ≡ [] }
     requires may { MayPlay section.now first }
-    ensures first { IfOk result (λ caller.
-        IsFirstCaller shared.now caller × (caller.first ≡ first.first)) }
-    ensures played { IfOk result (λ caller. HasPlayed first.first 0 section.now caller) }
+    requires empty { replies.items ≡ [] }
+    requires room { first.left ≤ vec_capacity replies }
+    ensures first { IfOk result (λ r.
+        IsFirstCaller shared.now r.0 × (r.0.first ≡ first.first)) }
+    ensures played { IfOk result (λ r. HasPlayed first.first 0 section.now r.0) }
+    ensures kept { IfOk result (λ r. IsKept r.0 r.1) }
 {
-    let port = play_section(alloc, section, Port::new(first), shared, gate)?;
-    Ok(port.into_caller())
+    let port = play_section(alloc, section, Port::telling(first, replies), shared, gate)?;
+    Ok(port.into_told())
 }
 
 /// One lane more, with a caller of its own.
@@ -49,19 +80,22 @@ fn split_lane(
     alloc: Global,
     shared: &Shared,
     first: &mut Caller<Fabric>,
-    fresh: Fabric,
-    section: Section,
+    player: Player,
 ) -> Result<Lane, NoMemory>
     requires may { MaySplit shared.now first.old }
-    requires fresh { IsFreshReplica first.old.first (shared.now.callers * shared.now.budget) fresh }
-    requires section { MayBePlayed (unit_count first.old) shared.now.budget section }
+    requires player { IsReadyPlayer shared.now first.old.first player }
     ensures first { first.new ≡ record first.old { made = first.old.made + 1 } }
     ensures ready { IfOk result (λ lane.
-        IsReadyLane shared.now first.old.first first.old.made section lane) }
+        IsReadyLane shared.now first.old.first first.old.made player.section lane) }
 {
-    let caller = split(shared, first, fresh);
+    let Player {
+        section,
+        replica,
+        replies,
+    } = player;
+    let caller = split(shared, first, replica);
     let _left = caller.left();
-    Ok(Lane::new(alloc, section, Port::new(caller))?)
+    Ok(Lane::new(alloc, section, Port::telling(caller, replies))?)
 }
 
 /// A lane for each player, each with a caller of its own.
@@ -73,10 +107,7 @@ fn split_lanes(
 ) -> Result<Vec<Lane>, NoMemory>
     requires first { IsFirstCaller shared.now first.old }
     requires callers { length players.items + 1 ≡ shared.now.callers }
-    requires replicas { AllByRecursion
-        (HasFreshReplica first.old.first (shared.now.callers * shared.now.budget)) players.items }
-    requires sections { AllByRecursion
-        (HasSection (unit_count first.old) shared.now.budget) players.items }
+    requires players { AllByRecursion (IsReadyPlayer shared.now first.old.first) players.items }
     ensures first { IfOk result (λ _.
         first.new ≡ record first.old { made = length players.items + 1 }) }
     ensures ready { IfOk result (λ lanes.
@@ -84,8 +115,7 @@ fn split_lanes(
 {
     let mut lanes = Vec::new(alloc);
     for player in players {
-        let Player { section, replica } = player;
-        let lane = split_lane(alloc, shared, first, replica, section)?;
+        let lane = split_lane(alloc, shared, first, player)?;
         if lanes.push(lane).is_err() {
             return Err(NoMemory);
         }
@@ -93,13 +123,20 @@ fn split_lanes(
     Ok(lanes)
 }
 
-fn into_callers(alloc: Global, lanes: Vec<Lane>) -> Result<Vec<Caller<Fabric>>, AllocError>
-    ensures { IfOk result (λ callers. callers.items ≡ map port_of lanes.items) }
+/// The callers of lanes, and what each kept.
+fn into_callers(alloc: Global, lanes: Vec<Lane>) -> Result<Callers, NoMemory>
+    ensures callers { IfOk result (λ c. c.rest.items ≡ map port_of lanes.items) }
+    ensures kept { IfOk result (λ c. AreKept c.rest.items c.kept.items) }
 {
-    lanes
-        .into_iter()
-        .map(|lane| lane.into_port().into_caller())
-        .collect(alloc)
+    let mut rest = Vec::with_capacity(alloc, lanes.len())?;
+    let mut kept = Vec::with_capacity(alloc, lanes.len() + 1)?;
+    for lane in lanes {
+        let (caller, replies) = lane.into_port().into_told();
+        if rest.push(caller).is_err() || kept.push(replies).is_err() {
+            return Err(NoMemory);
+        }
+    }
+    Ok(Callers { rest, kept })
 }
 
 /// Runs the lanes beside each other, and takes their callers out.
@@ -109,46 +146,124 @@ fn run_all<R: Threads + Sync, G: Gate + Sync>(
     shared: &Shared,
     lanes: Vec<Lane>,
     gate: &G,
-) -> Result<Vec<Caller<Fabric>>, NoMemory>
+) -> Result<Callers, NoMemory>
     requires ready { All (λ l. MayRun shared.now l) lanes.items }
-    ensures count { IfOk result (λ callers. length callers.items ≡ length lanes.items) }
+    ensures count { IfOk result (λ c. length c.rest.items ≡ length lanes.items) }
     ensures ran { IfOk result (λ callers.
         (k : ℕ) (l : LaneView) (c : PortView) → k < length lanes.items →
-        RunsTo (slice_index_or lanes.items k l) (slice_index_or callers.items k c)) }
+        RunsTo (slice_index_or lanes.items k l) (slice_index_or callers.rest.items k c)) }
+    ensures kept { IfOk result (λ c. AreKept c.rest.items c.kept.items) }
 {
     let mut lanes = lanes;
     run_lanes(rt, shared, &mut lanes, gate);
-    Ok(into_callers(alloc, lanes)?)
+    into_callers(alloc, lanes)
 }
 
-/// Plays the sections on one log, each with at most `budget` events.
+/// Plays the sections on one log, each with at most `budget` events, on units of these shapes.
 fn play_sections<R: Threads + Sync, G: Gate + Sync>(
     rt: &R,
     alloc: Global,
-    script: &Script,
+    shapes: &[Shape],
+    boot: &Section,
+    lanes: Vec<Section>,
     budget: u32,
     gate: &G,
-) -> Result<History, NoMemory>
-    requires count { (1 ≤ length script.now.shapes) × (length script.now.shapes ≤ 4) }
-    requires shapes { AllByRecursion IsValidShape script.now.shapes }
-    requires lanes { length script.now.lanes ≤ 16 }
-    requires budget { (1 ≤ budget) × ((length script.now.lanes + 1) * budget ≤ 1048576) }
-    requires boot { MayBePlayed (length script.now.shapes) budget script.now.boot }
-    requires sections { MayAllPlay (length script.now.shapes) budget script.now.lanes }
-    ensures { IfOk result (λ words.
-        IsLegalHistory script.now.shapes script.now.boot script.now.lanes words) }
+) -> Result<Closed, NoMemory>
+    requires count { (1 ≤ length shapes.now) × (length shapes.now ≤ 4) }
+    requires shapes { AllByRecursion IsValidShape shapes.now }
+    requires lanes { length lanes.items ≤ 16 }
+    requires budget { (1 ≤ budget) × ((length lanes.items + 1) * budget ≤ 1048576) }
+    requires boot { MayBePlayed (length shapes.now) budget boot.now }
+    requires sections { MayAllPlay (length shapes.now) budget lanes.items }
+    ensures legal { IfOk result (λ p.
+        IsLegalHistory shapes.now boot.now lanes.items p.history) }
+    ensures told { IfOk result (λ p. IsToldBy shapes.now p.history p.kept.items p.seen) }
 {
-    let lanes = script.lanes.len();
-    let callers = lanes as u8 + 1;
-    let places = callers as u32 * budget;
-    let players = make_players(alloc, &script.shapes, places, &script.lanes)?;
-    let units = Fabric::open(alloc, &script.shapes, places)?;
-    let (shared, first) = Shared::open(alloc, callers, budget, units)?;
-    let mut first = play_boot(alloc, &shared, first, &script.boot, gate)?;
+    let count = lanes.len() as u8 + 1;
+    let places = count as u32 * budget;
+    let players = make_players(alloc, shapes, places, budget, lanes)?;
+    let units = Fabric::open(alloc, shapes, places)?;
+    let replies = Vec::with_capacity(alloc, budget as usize)?;
+    let (shared, first) = Shared::open(alloc, count, budget, units)?;
+    let (mut first, own) = play_boot(alloc, &shared, first, replies, boot, gate)?;
     let _place = first.place();
     let lanes = split_lanes(alloc, &shared, &mut first, players)?;
-    let rest = run_all(rt, alloc, &shared, lanes, gate)?;
-    Ok(close(shared, first, rest))
+    let Callers { rest, mut kept } = run_all(rt, alloc, &shared, lanes, gate)?;
+    if kept.insert(0, own).is_err() {
+        return Err(NoMemory);
+    }
+    let seen = seen_by(alloc, &first, &rest)?;
+    let history = close(shared, first, rest);
+    Ok(Closed {
+        history,
+        kept,
+        seen,
+    })
+}
+
+/// What the units told of a history, by what its callers kept and saw where that is enough.
+fn tell(alloc: Global, shapes: &[Shape], closed: Closed) -> Result<ToldHistory, NoMemory>
+    requires count { (1 ≤ length shapes.now) × (length shapes.now ≤ 4) }
+    requires shapes { AllByRecursion IsValidShape shapes.now }
+    requires few { length closed.history ≤ 1048576 }
+    requires told { IsToldBy shapes.now closed.history closed.kept.items closed.seen }
+    ensures history { IfOk result (λ p. p.history ≡ closed.history) }
+    ensures told { IfOk result (λ p. IsToldOf p.told shapes.now closed.history) }
+{
+    let Closed {
+        history,
+        kept,
+        seen,
+    } = closed;
+    let told = told_or_replayed(alloc, shapes, history.words(), &kept, seen)?;
+    Ok(ToldHistory { history, told })
+}
+
+/// Plays a script as `play` does, and hands out what the units told of its history too.
+#[tactic(auto, using(crate::proofs::HistoryLengths::legal_is_short))]
+pub fn play_told<R: Threads + Sync, G: Gate + Sync>(
+    rt: &R,
+    alloc: Global,
+    script: &Script,
+    gate: &G,
+) -> Result<ToldHistory, NoMemory>
+    requires formed { IsWellFormedScript script.now }
+    requires few { need_of script.now ≤ 1048576 }
+    ensures legal { IfOk result (λ p.
+        IsLegalHistory script.now.shapes script.now.boot script.now.lanes p.history) }
+    ensures few { IfOk result (λ p. length p.history ≤ need_of script.now) }
+    ensures told { IfOk result (λ p. IsToldOf p.told script.now.shapes p.history) }
+{
+    let budget = budget(script);
+    let lanes = copy_sections(alloc, &script.lanes)?;
+    let shapes = script.shapes.as_slice();
+    let closed = play_sections(rt, alloc, shapes, &script.boot, lanes, budget, gate)?;
+    tell(alloc, shapes, closed)
+}
+
+/// The same of a script that is used up, whose sections are not copied.
+#[tactic(auto, using(crate::proofs::HistoryLengths::legal_is_short))]
+pub fn play_whole<R: Threads + Sync, G: Gate + Sync>(
+    rt: &R,
+    alloc: Global,
+    script: Script,
+    gate: &G,
+) -> Result<ToldHistory, NoMemory>
+    requires formed { IsWellFormedScript script }
+    requires few { need_of script ≤ 1048576 }
+    ensures legal { IfOk result (λ p.
+        IsLegalHistory script.shapes script.boot script.lanes p.history) }
+    ensures few { IfOk result (λ p. length p.history ≤ need_of script) }
+    ensures told { IfOk result (λ p. IsToldOf p.told script.shapes p.history) }
+{
+    let budget = budget(&script);
+    let Script {
+        shapes,
+        boot,
+        lanes,
+    } = script;
+    let closed = play_sections(rt, alloc, &shapes, &boot, lanes, budget, gate)?;
+    tell(alloc, &shapes, closed)
 }
 
 /// Plays the boot section by the first caller of a log, and then the lanes beside each other, each by
@@ -158,11 +273,11 @@ fn play_sections<R: Threads + Sync, G: Gate + Sync>(
 /// there, and it needs at most 1048576 events. `Ok` gives a legal history of the script, which has no
 /// more events than the script needs.
 ///
-/// The memory of the log, of the replicas, of the lanes' sections, which are copied, and of the boot
-/// section's table of tickets is taken before the first event, that of the lanes and of their tables of
-/// tickets after the boot section, and that of the list of callers, by which the log is closed, after the
-/// lanes ran. Whenever there is none, the history is lost.
-#[tactic(auto, using(crate::proofs::HistoryLengths::legal_is_short))]
+/// The memory of the log, of the replicas, of the lists that keep the replies, of the lanes' sections, which
+/// are copied, and of the boot section's table of tickets is taken before the first event, that of the lanes
+/// and of their tables of tickets after the boot section, that of the lists of callers and of what they kept,
+/// by which the log is closed, after the lanes ran, and that of the replies to the whole history after the
+/// close. Whenever there is none, the history is lost.
 pub fn play<R: Threads + Sync, G: Gate + Sync>(
     rt: &R,
     alloc: Global,
@@ -175,6 +290,6 @@ pub fn play<R: Threads + Sync, G: Gate + Sync>(
         IsLegalHistory script.now.shapes script.now.boot script.now.lanes words) }
     ensures few { IfOk result (λ words. length words ≤ need_of script.now) }
 {
-    let budget = budget(script);
-    play_sections(rt, alloc, script, budget, gate)
+    let ToldHistory { history, .. } = play_told(rt, alloc, script, gate)?;
+    Ok(history)
 }

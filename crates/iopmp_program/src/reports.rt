@@ -10,6 +10,7 @@ ghost use Rattle.iopmp_program.specs.ToldHistories.{logged_with, IsToldOf};
 ghost use Rattle.iopmp_program.specs.FaultsCommand.{IsFaultsText};
 
 mod cursors;
+mod merged;
 pub mod replay;
 pub mod told;
 mod windows;
@@ -143,19 +144,6 @@ fn told_body(
     Ok(out)
 }
 
-/// The same, where the words are replayed for what is told of them.
-fn report_body(alloc: Global, script: &Script, words: &[u64]) -> Result<Vec<u8>, NoMemory>
-    requires count { (1 ≤ length script.now.shapes) × (length script.now.shapes ≤ 4) }
-    requires shapes { AllByRecursion IsValidShape script.now.shapes }
-    requires lanes { length script.now.lanes ≤ 16 }
-    requires few { length words.now ≤ 1048576 }
-    ensures { IfOk result (λ body. body.items ++ codes "end\n" ≡
-        report_text script.now.shapes script.now.boot script.now.lanes words.now) }
-{
-    let told = replayed(alloc, &script.shapes, words)?;
-    told_body(alloc, script, words, &told)
-}
-
 /// The report of a history of the script of which this is told.
 pub fn told_report(
     alloc: Global,
@@ -187,23 +175,29 @@ pub fn report(alloc: Global, script: &Script, words: &[u64]) -> Result<Vec<u8>, 
     ensures { IfOk result (λ text. text.items ≡
         report_text script.now.shapes script.now.boot script.now.lanes words.now) }
 {
-    let mut out = report_body(alloc, script, words)?;
-    out.extend_from_slice(b"end\n")?;
-    Ok(out)
+    let told = replayed(alloc, &script.shapes, words)?;
+    told_report(alloc, script, words, &told)
 }
 
 /// The report without its last line, and after it what each reading of register 0x74 shows, how many requesters
-/// of each unit are left pending, and `end`. The conditions are those of `report`, and the words are a history's.
-pub fn faults_report(alloc: Global, script: &Script, words: &[u64]) -> Result<Vec<u8>, NoMemory>
+/// of each unit are left pending, and `end`. The conditions are those of `report`, the words are a history's, and
+/// this is told of it.
+pub fn faults_report(
+    alloc: Global,
+    script: &Script,
+    words: &[u64],
+    told: &Told,
+) -> Result<Vec<u8>, NoMemory>
     requires count { (1 ≤ length script.now.shapes) × (length script.now.shapes ≤ 4) }
     requires shapes { AllByRecursion IsValidShape script.now.shapes }
     requires lanes { length script.now.lanes ≤ 16 }
     requires few { length words.now ≤ 1048576 }
     requires words { AllByRecursion IsEventWord words.now }
+    requires told { IsToldOf told.now script.now.shapes words.now }
     ensures { IfOk result (λ text. IsFaultsText script.now words.now
         (report_text script.now.shapes script.now.boot script.now.lanes words.now) text.items) }
 {
-    let mut out = report_body(alloc, script, words)?;
+    let mut out = told_body(alloc, script, words, told)?;
     let replay = replay_words(alloc, &script.shapes, words)?;
     let mut line = Line::new();
     push_windows(

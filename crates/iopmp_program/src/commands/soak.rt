@@ -9,8 +9,7 @@ use crate::answer::{Answer, NoAnswer, report_answer};
 use crate::generated::script::generated_script;
 use crate::generated::summary::{summary, verdict_codes};
 use crate::memory::NoMemory;
-use crate::playing::play;
-use crate::reports::told::replayed;
+use crate::playing::{ToldHistory, play_whole};
 use checker_workers::Gate;
 use std::alloc::Global;
 use std::thread::Threads;
@@ -25,8 +24,7 @@ fn soaked<R: Threads + Sync, G: Gate + Sync>(
     ensures { IfOk result (λ a. ReportOf (IsSoaked number) a.status a.history a.text.items) }
 {
     let script = generated_script(alloc, number)?;
-    let history = play(rt, alloc, &script, gate)?;
-    let told = replayed(alloc, &script.shapes, history.words())?;
+    let ToldHistory { history, told } = play_whole(rt, alloc, script, gate)?;
     let codes = verdict_codes(alloc, &told.replies)?;
     let text = summary(alloc, number, &codes)?;
     Ok(report_answer(history, text))

@@ -2,18 +2,19 @@
 ghost use Rattle.std.specs.Prelude.{◌≡◌, ◌≤◌, length, map, IfOk};
 ghost use Rattle.std.specs.List.{AllByRecursion};
 ghost use Rattle.event_words.specs.Valid.{IsValidShape};
-ghost use Rattle.iopmp_program.specs.PlayedSections.{player_of};
+ghost use Rattle.iopmp_program.specs.PlayedSections.{IsPlayer, section_of};
 
 use crate::memory::NoMemory;
-use event_words::{Section, Shape};
+use event_words::{Reply, Section, Shape};
 use std::alloc::{AllocError, Global};
 use unit_core::Fabric;
 
-/// Who plays a section: the section itself, and a replica of the units.
+/// Who plays a section: the section itself, a replica of the units, and a list for the replies to its events.
 #[derive(Drop)]
 pub struct Player {
     pub section: Section,
     pub replica: Fabric,
+    pub replies: Vec<Reply>,
 }
 
 /// The same section again.
@@ -27,21 +28,39 @@ fn copy_section(alloc: Global, section: &Section) -> Result<Section, AllocError>
     })
 }
 
+/// The same sections again.
+pub fn copy_sections(alloc: Global, sections: &[Section]) -> Result<Vec<Section>, AllocError>
+    ensures { IfOk result (λ copies. copies.items ≡ sections.now) }
+{
+    let mut copies = Vec::new(alloc);
+    for section in sections {
+        let copy = copy_section(alloc, section)?;
+        copies.push(copy)?;
+    }
+    Ok(copies)
+}
+
 /// A player of a section, its units at reset.
 fn make_player(
     alloc: Global,
     shapes: &[Shape],
     places: u32,
-    section: &Section,
+    budget: u32,
+    section: Section,
 ) -> Result<Player, NoMemory>
     requires count { (1 ≤ length shapes.now) × (length shapes.now ≤ 4) }
     requires shapes { AllByRecursion IsValidShape shapes.now }
     requires places { places ≤ 1048576 }
-    ensures { IfOk result (λ player. player ≡ player_of shapes.now places section.now) }
+    ensures section { IfOk result (λ player. player.section ≡ section) }
+    ensures made { IfOk result (λ player. IsPlayer shapes.now places budget player) }
 {
-    let section = copy_section(alloc, section)?;
     let replica = Fabric::open(alloc, shapes, places)?;
-    Ok(Player { section, replica })
+    let replies = Vec::with_capacity(alloc, budget as usize)?;
+    Ok(Player {
+        section,
+        replica,
+        replies,
+    })
 }
 
 /// A player for each section, in their order.
@@ -49,17 +68,19 @@ pub fn make_players(
     alloc: Global,
     shapes: &[Shape],
     places: u32,
-    sections: &[Section],
+    budget: u32,
+    sections: Vec<Section>,
 ) -> Result<Vec<Player>, NoMemory>
     requires count { (1 ≤ length shapes.now) × (length shapes.now ≤ 4) }
     requires shapes { AllByRecursion IsValidShape shapes.now }
     requires places { places ≤ 1048576 }
-    ensures { IfOk result (λ players.
-        players.items ≡ map (player_of shapes.now places) sections.now) }
+    ensures sections { IfOk result (λ players. map section_of players.items ≡ sections.items) }
+    ensures made { IfOk result (λ players.
+        AllByRecursion (IsPlayer shapes.now places budget) players.items) }
 {
     let mut players = Vec::new(alloc);
     for section in sections {
-        let player = make_player(alloc, shapes, places, section)?;
+        let player = make_player(alloc, shapes, places, budget, section)?;
         if players.push(player).is_err() {
             return Err(NoMemory);
         }

@@ -1,17 +1,17 @@
 // A script that is played, and what is told of its history.
-ghost use Rattle.std.specs.Prelude.{◌≡◌, ◌≤◌, [], IfOk, length};
+ghost use Rattle.std.specs.Prelude.{◌≤◌, IfOk, length};
 ghost use Rattle.std.specs.List.{AllByRecursion};
 ghost use Rattle.event_words.specs.Runs.{IsEventWord};
 ghost use Rattle.script_reader.specs.Scripts.{IsWellFormedScript, need_of};
 ghost use Rattle.iopmp_program.specs.FaultsCommand.{IsTextOf, IsRunOf};
-ghost use Rattle.iopmp_program.specs.ReportedRuns.{IsRun};
+ghost use Rattle.iopmp_program.specs.ToldHistories.{IsToldOf};
 ghost use Rattle.iopmp_program.specs.AnswerForms.{ReportOf};
 
-use super::alone::{ToldHistory, play_alone};
-use super::play;
+use super::{ToldHistory, play_told};
 use crate::answer::{Answer, report_answer};
 use crate::memory::NoMemory;
-use crate::reports::{faults_report, report, told_report};
+use crate::reports::told::Told;
+use crate::reports::{faults_report, told_report};
 use checker_workers::Gate;
 use fault_windows::law_faults;
 use history_laws::{law_kept, law_one_history, law_reports};
@@ -28,36 +28,24 @@ pub enum WhichReport {
     WithFaults,
 }
 
+/// The report that is wanted of a history of which this is told.
 fn text_of(
     alloc: Global,
     which: WhichReport,
     script: &Script,
     words: &[u64],
+    told: &Told,
 ) -> Result<Vec<u8>, NoMemory>
     requires formed { IsWellFormedScript script.now }
     requires few { length words.now ≤ 1048576 }
     requires words { AllByRecursion IsEventWord words.now }
+    requires told { IsToldOf told.now script.now.shapes words.now }
     ensures { IfOk result (λ text. IsTextOf which script.now words.now text.items) }
 {
     match which {
-        WhichReport::Plain => report(alloc, script, words),
-        WhichReport::WithFaults => faults_report(alloc, script, words),
+        WhichReport::Plain => told_report(alloc, script, words, told),
+        WhichReport::WithFaults => faults_report(alloc, script, words, told),
     }
-}
-
-/// Plays a script without lanes, and writes the report of its history.
-fn played_alone<G: Gate>(alloc: Global, script: &Script, gate: &G) -> Result<Answer, NoMemory>
-    requires formed { IsWellFormedScript script.now }
-    requires few { need_of script.now ≤ 1048576 }
-    requires alone { script.now.lanes ≡ [] }
-    ensures { IfOk result (λ a. ReportOf (IsRun script.now) a.status a.history a.text.items) }
-{
-    law_kept();
-    law_one_history();
-    law_reports();
-    let ToldHistory { history, told } = play_alone(alloc, script, gate)?;
-    let text = told_report(alloc, script, history.words(), &told)?;
-    Ok(report_answer(history, text))
 }
 
 /// Plays a script, and writes the report that is wanted of its history.
@@ -73,16 +61,11 @@ pub fn played<R: Threads + Sync, G: Gate + Sync>(
     ensures { IfOk result (λ a. ReportOf (IsRunOf which script.now) a.status a.history
         a.text.items) }
 {
-    if let WhichReport::Plain = which {
-        if script.lanes.is_empty() {
-            return played_alone(alloc, script, gate);
-        }
-    }
     law_kept();
     law_one_history();
     law_reports();
     law_faults();
-    let history = play(rt, alloc, script, gate)?;
-    let text = text_of(alloc, which, script, history.words())?;
+    let ToldHistory { history, told } = play_told(rt, alloc, script, gate)?;
+    let text = text_of(alloc, which, script, history.words(), &told)?;
     Ok(report_answer(history, text))
 }

@@ -1,12 +1,14 @@
 // What the units told of a history.
-ghost use Rattle.std.specs.Prelude.{◌≡◌, ◌≤◌, length, IfOk, IfSome};
+ghost use Rattle.std.specs.Prelude.{◌≡◌, ◌≤◌, length, IfOk};
 ghost use Rattle.std.specs.List.{AllByRecursion};
 ghost use Rattle.event_words.specs.Runs.{run_from};
 ghost use Rattle.event_words.specs.Valid.{IsValidShape};
 ghost use Rattle.unit_core.specs.Fabrics.{state_after_word};
 ghost use Rattle.unit_core.specs.Reports.{unit_lines};
+ghost use Rattle.iopmp_program.specs.MergedReplies.{IsToldBy};
 ghost use Rattle.iopmp_program.specs.ToldHistories.{replies_from, IsToldOf};
 
+use super::merged::merged;
 use super::push_units;
 use crate::memory::NoMemory;
 use event_words::{Line, Machine, Reply, Shape};
@@ -17,6 +19,13 @@ use unit_core::Fabric;
 #[derive(Drop)]
 pub struct Told {
     pub replies: Vec<Reply>,
+    pub errors: Vec<u8>,
+}
+
+/// How many events a caller has seen, and the lines of its units' error registers after them.
+#[derive(Drop)]
+pub struct Seen {
+    pub events: u32,
     pub errors: Vec<u8>,
 }
 
@@ -59,22 +68,25 @@ pub fn replayed(alloc: Global, shapes: &[Shape], words: &[u64]) -> Result<Told, 
     Ok(Told { replies, errors })
 }
 
-/// What is told of these words, where the replies were kept; else the words are replayed.
+/// What is told of these words by what their callers kept and saw; else the words are replayed.
 pub fn told_or_replayed(
     alloc: Global,
     shapes: &[Shape],
     words: &[u64],
-    kept: Option<Vec<Reply>>,
-    errors: Vec<u8>,
+    kept: &[Option<Vec<Reply>>],
+    seen: Seen,
 ) -> Result<Told, NoMemory>
     requires count { (1 ≤ length shapes.now) × (length shapes.now ≤ 4) }
     requires shapes { AllByRecursion IsValidShape shapes.now }
     requires few { length words.now ≤ 1048576 }
-    requires told { IfSome kept (λ replies.
-        IsToldOf (record { replies = replies; errors = errors }) shapes.now words.now) }
+    requires told { IsToldBy shapes.now words.now kept.now seen }
     ensures { IfOk result (λ told. IsToldOf told shapes.now words.now) }
 {
-    match kept {
+    let Seen { events, errors } = seen;
+    if events as usize != words.len() {
+        return replayed(alloc, shapes, words);
+    }
+    match merged(alloc, kept, words)? {
         Some(replies) => Ok(Told { replies, errors }),
         None => replayed(alloc, shapes, words),
     }

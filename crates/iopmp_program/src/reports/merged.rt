@@ -1,0 +1,51 @@
+// The replies to a history's words, from those that each caller kept.
+ghost use Rattle.std.specs.Prelude.{◌≡◌, ◌<◌, ◌≤◌, length, slice_get, IfOk, IfSome};
+ghost use Rattle.event_words.specs.Runs.{caller_of_word};
+ghost use Rattle.iopmp_program.specs.MergedReplies.{list_of, IsMerged};
+
+use event_words::Reply;
+use std::alloc::{AllocError, Global};
+
+/// The most callers of a log.
+const CALLERS: usize = 32;
+
+/// The number of the caller whose event a word is, its bits 60:56.
+#[tactic(auto, unfolding(event_words::specs::Runs::caller_of_word))]
+fn caller_of_word(word: u64) -> usize
+    ensures caller { result ≡ caller_of_word word }
+    ensures small { result < 32 }
+{
+    (word / (1 << 56) % 32) as usize
+}
+
+/// The reply at this place of a caller's list, where there is one.
+fn kept_at(kept: &[Option<Vec<Reply>>], caller: usize, place: usize) -> Option<Reply>
+    ensures { result ≡ slice_get (list_of kept.now caller) place }
+{
+    match kept.get(caller) {
+        Some(Some(replies)) => replies.get(place).copied(),
+        _ => None,
+    }
+}
+
+/// The replies to words, each the next that the caller of its word kept; none where a caller kept too few.
+pub fn merged(
+    alloc: Global,
+    kept: &[Option<Vec<Reply>>],
+    words: &[u64],
+) -> Result<Option<Vec<Reply>>, AllocError>
+    ensures { IfOk result (λ found. IfSome found (λ replies.
+        IsMerged kept.now words.now replies.items)) }
+{
+    let mut next = [0usize; CALLERS];
+    let mut replies = Vec::with_capacity(alloc, words.len())?;
+    for word in words {
+        let caller = caller_of_word(*word);
+        let Some(reply) = kept_at(kept, caller, next[caller]) else {
+            return Ok(None);
+        };
+        next[caller] += 1;
+        replies.push_reserved(reply);
+    }
+    Ok(Some(replies))
+}
