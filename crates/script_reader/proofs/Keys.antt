@@ -1,9 +1,10 @@
 -- Names and the numbers that stand for them.
-use Rattle.std.proofs.Common.{◌≡◌, ℕ, zero, suc, ◌+◌, ◌-◌, ◌*◌, ◌^◌, ◌<◌, ◌≤◌, ◌&&◌, nat_le, Bool, true, false, cond, List, [], ◌∷◌, ◌++◌, None, Some, Option, length, map, drop, get_or, slice_index, is_some, unwrap_or, refl, ap, sym, subst, ◌∙◌, inl, inr, arith, length-append, length-drop}
-use Rattle.std.proofs.Math.Nat.{pow-suc, pow-le-pow_right}
+use Rattle.std.proofs.Common.{◌≡◌, ℕ, zero, suc, ◌+◌, ◌-◌, ◌*◌, ◌^◌, ◌<◌, ◌≤◌, ◌&&◌, nat_le, Bool, true, false, cond, List, [], ◌∷◌, ◌++◌, None, Some, Option, length, map, get_or, slice_index, is_some, unwrap_or, refl, ap, sym, subst, ◌∙◌, inl, inr, arith, length-append}
+use Rattle.std.proofs.Math.Nat.{pow-le-pow_right}
+use Rattle.std.proofs.lemmas.Grind.{pow_more}
 use Rattle.std.proofs.lemmas.Bool.{cases_Bool, cases_lt, leb-true}
 use Rattle.std.proofs.lemmas.Bool.Decides.{nat_tests}
-use Rattle.std.proofs.lemmas.List.{drop_more, get_or-drop, get_or_push, get_or-map, length-map}
+use Rattle.std.proofs.lemmas.List.{get_or_push, get_or-map, length-map}
 use Rattle.std.proofs.lemmas.Slice.Eq.{bytes_eq-Decides}
 use denote.Ref.{Bor}
 use Rattle.std.specs.Cmp.{nat_cmp_is}
@@ -12,51 +13,71 @@ use Rattle.std.specs.declared.cmp.Ordering.TheVariants.{Less, Equal, Greater}
 use Rattle.std.specs.List.{list_all}
 use Rattle.std.specs.Str.{bytes_eq}
 use Rattle.std.specs.BTreeMap.{BTreeMap, get, Updates}
-use Rattle.script_reader.specs.Names.{is_letter, is_letter_or_digit, is_name, key_of, rank_of, slot_of, AreSlotsOf}
+use Rattle.script_reader.specs.Names.{is_letter, is_letter_or_digit, is_name, key_after, key_of, rank_of, slot_of, AreSlotsOf}
 use Rattle.script_reader.proofs.Parts.{and_left, and_right}
 use Rattle.script_reader.proofs.Slots.{slot_more, slot_in, is_none}
 
 -- ---- the number of a name so far
 
-key_bound : (n : ℕ) (bs : List ℕ) → ((k : ℕ) → get_or bs k 0 < 256) → key_of bs < 256 ^ length bs
-key_bound n [] small = omega arith
-key_bound n (b ∷ bs) small =
-    let rest : key_of bs < 256 ^ length bs = key_bound n bs (λ k. small (suc k)) in
-    let first : b < 256 = small 0 in
-    let power : 256 ^ suc (length bs) ≡ 256 ^ length bs * 256 = pow-suc 256 (length bs) in
-    omega (arith, rest, first, power)
+-- a byte more
+pub key_more : (key byte i : ℕ) → key < 256 ^ i → byte < 256 → key * 256 + byte < 256 ^ (i + 1)
+key_more key byte i below small = rw (pow_more 256 i) (omega (arith, below, small))
 
 -- at most eight bytes fit 64 bits
-pub key_small : (bs : List ℕ) → ((k : ℕ) → get_or bs k 0 < 256) → length bs ≤ 8 → key_of bs < 2 ^ 64
-key_small bs small short =
-    let most : 256 ^ length bs ≤ 256 ^ 8 = pow-le-pow_right {n = 256} (omega arith) short in
-    omega (arith, key_bound 0 bs small, most)
+pub key_fits : (key byte i : ℕ) → key < 256 ^ i → byte < 256 → i < 8 → key * 256 + byte < 2 ^ 64
+key_fits key byte i below small few =
+    let most : 256 ^ (i + 1) ≤ 256 ^ 8 = pow-le-pow_right {n = 256} (omega arith) {i = i + 1} {j = 8} (omega (arith, few)) in
+    omega (arith, key_more key byte i below small, most)
 
-pub key_fits : (name : List ℕ) (left key byte : ℕ) → ((i : ℕ) → get_or name i 0 < 256) → length name ≤ 8 → left < length name → key ≡ key_of (drop (left + 1) name) → byte ≡ get_or name left 0
-    → (key_of (drop left name) ≡ key * 256 + byte) × (key * 256 + byte < 2 ^ 64)
-key_fits name left key byte small short within so_far last =
-    let more : key_of (drop left name) ≡ key * 256 + byte =
-    ap key_of (drop_more name left 0 within) ∙ ap (λ k. k * 256 + get_or name left 0) (sym so_far) ∙ ap (λ b. key * 256 + b) (sym last) in
-    let fits : key_of (drop left name) < 2 ^ 64 =
-    key_small (drop left name) (λ k. subst (λ b. b < 256) (sym (get_or-drop left name k 0)) (small (left + k))) (omega (arith, length-drop left name, short)) in
-    (more, omega (arith, more, fits))
+key_bound : (key i : ℕ) (bs : List ℕ) → key < 256 ^ i → ((k : ℕ) → get_or bs k 0 < 256) → key_after key bs < 256 ^ (i + length bs)
+key_bound key i [] below small = subst (λ n. key < 256 ^ n) (omega arith) below
+key_bound key i (b ∷ bs) below small =
+    subst (λ n. key_after (key * 256 + b) bs < 256 ^ n) (omega arith) (key_bound (key * 256 + b) (i + 1) bs (key_more key b i below (small 0)) (λ k. small (suc k)))
+
+key_small : (bs : List ℕ) → ((k : ℕ) → get_or bs k 0 < 256) → length bs ≤ 8 → key_of bs < 2 ^ 64
+key_small bs small short =
+    let most : 256 ^ (0 + length bs) ≤ 256 ^ 8 = pow-le-pow_right {n = 256} (omega arith) {i = 0 + length bs} {j = 8} (omega (arith, short)) in
+    omega (arith, key_bound 0 0 bs (omega arith) small, most)
 
 -- ---- names with one number are one
 
-first_byte : (p q a b : ℕ) → a < 256 → b < 256 → p * 256 + a ≡ q * 256 + b → (p ≡ q) × (a ≡ b)
-first_byte p q a b small other e = (omega (arith, small, other, e), omega (arith, small, other, e))
+last_byte : (p q a b : ℕ) → a < 256 → b < 256 → p * 256 + a ≡ q * 256 + b → (p ≡ q) × (a ≡ b)
+last_byte p q a b small other e = (omega (arith, small, other, e), omega (arith, small, other, e))
 
 is_byte : (b : ℕ) → is_letter_or_digit b ≡ true → (1 ≤ b) × (b < 256)
 is_byte b h = (grind (arith, nat_tests), grind (arith, nat_tests))
 
-pub same_key : (w q : List ℕ) → list_all is_letter_or_digit w ≡ true → list_all is_letter_or_digit q ≡ true → key_of w ≡ key_of q → w ≡ q
-same_key [] [] h k e = refl
-same_key [] (c ∷ cs) h k e = absurd (omega (arith, e, is_byte c (and_left _ _ k)))
-same_key (b ∷ bs) [] h k e = absurd (omega (arith, e, is_byte b (and_left _ _ h)))
-same_key (b ∷ bs) (c ∷ cs) h k e =
-    let parts = first_byte (key_of bs) (key_of cs) b c (is_byte b (and_left _ _ h)).1 (is_byte c (and_left _ _ k)).1 e in
-    let rest : bs ≡ cs = same_key bs cs (and_right (is_letter_or_digit b) _ h) (and_right (is_letter_or_digit c) _ k) parts.0 in
-    ap (λ x. x ∷ bs) parts.1 ∙ ap (λ l. c ∷ l) rest
+-- as many bytes after a number give one number only where both the numbers and the bytes are the same
+same_after : (p q : ℕ) (w v : List ℕ) → length w ≡ length v → list_all is_letter_or_digit w ≡ true → list_all is_letter_or_digit v ≡ true → key_after p w ≡ key_after q v → (p ≡ q) × (w ≡ v)
+same_after p q [] [] long h k e = (e, refl)
+same_after p q [] (c ∷ cs) long h k e = absurd (omega (arith, long))
+same_after p q (b ∷ bs) [] long h k e = absurd (omega (arith, long))
+same_after p q (b ∷ bs) (c ∷ cs) long h k e =
+    let rest = same_after (p * 256 + b) (q * 256 + c) bs cs (omega (arith, long)) (and_right (is_letter_or_digit b) _ h) (and_right (is_letter_or_digit c) _ k) e in
+    let parts = last_byte p q b c (is_byte b (and_left _ _ h)).1 (is_byte c (and_left _ _ k)).1 rest.0 in
+    (parts.0, ap (λ x. x ∷ bs) parts.1 ∙ ap (λ l. c ∷ l) rest.1)
+
+-- more bytes give another number, since none is zero
+longer_after : (p : ℕ) (w v : List ℕ) → length v < length w → list_all is_letter_or_digit w ≡ true → list_all is_letter_or_digit v ≡ true → key_after p w ≡ key_of v → ⊥
+longer_after p [] v more h k e = omega (arith, more)
+longer_after p (b ∷ bs) v more h k e =
+    let some : 1 ≤ b = (is_byte b (and_left _ _ h)).0 in
+    let rest : list_all is_letter_or_digit bs ≡ true = and_right (is_letter_or_digit b) _ h in
+    elim (cases_lt (length v) (length bs)) [
+      | inl still ↦ longer_after (p * 256 + b) bs v still rest k e
+      | inr even ↦ omega (arith, some, (same_after (p * 256 + b) 0 bs v (omega (arith, even, more)) rest k e).0)
+    ]
+
+pub same_key : (w v : List ℕ) → list_all is_letter_or_digit w ≡ true → list_all is_letter_or_digit v ≡ true → key_of w ≡ key_of v → w ≡ v
+same_key w v h k e =
+    elim (cases_lt (length v) (length w)) [
+      | inl more ↦ absurd (longer_after 0 w v more h k e)
+      | inr most ↦
+          elim (cases_lt (length w) (length v)) [
+            | inl less ↦ absurd (longer_after 0 v w less k h (sym e))
+            | inr least ↦ (same_after 0 0 w v (omega (arith, most, least)) h k e).1
+          ]
+    ]
 
 byte_small : (w : List ℕ) → list_all is_letter_or_digit w ≡ true → (k : ℕ) → get_or w k 0 < 256
 byte_small [] h k = omega arith

@@ -37,10 +37,14 @@ with_name names word =
 
 -- ---- names by numbers
 
--- the number that bytes write in base 256, the first byte the lowest
+-- a number, and then bytes as its further digits in base 256
+abbrev pub key_after : ℕ → List ℕ → ℕ
+key_after key [] = key
+key_after key (b ∷ bs) = key_after (key * 256 + b) bs
+
+-- the number that bytes write in base 256, the first byte the highest
 abbrev pub key_of : List ℕ → ℕ
-key_of [] = 0
-key_of (b ∷ bs) = key_of bs * 256 + b
+key_of bs = key_after 0 bs
 
 -- where a name stands in a map: the greater its number, the lower
 abbrev pub rank_of : List ℕ → ℕ

@@ -34,22 +34,20 @@ fn is_name(word: &[u8]) -> bool
     1 <= word.len() && word.len() <= 8 && is_letter(word[0]) && are_letters_or_digits(word)
 }
 
-/// The number that a name's bytes write in base 256, the first byte the lowest.
+/// The number that a name's bytes write in base 256, the first byte the highest.
 fn key(name: &[u8]) -> u64
     requires { length name.now ≤ 8 }
     ensures { result ≡ key_of name.now }
 {
     let mut key = 0u64;
-    let mut left = name.len();
-    while 0 < left {
-        left -= 1;
-        key = key * 256 + u64::from(name[left]);
+    for byte in name {
+        key = key * 256 + u64::from(*byte);
     }
     key
 }
 
-/// Where a name stands in a map. Names are mostly given in rising order, and the map is searched from its
-/// beginning, so the last name stands first.
+/// Where a name stands in a map. Names are mostly given in rising order, as `s9` before `s10`, and the map is
+/// searched from its beginning, so the last name stands first.
 fn rank(name: &[u8]) -> u64
     requires { length name.now ≤ 8 }
     ensures { result ≡ rank_of name.now }

@@ -1,10 +1,7 @@
--- The number of the bytes that were taken from the end.
-use Rattle.std.proofs.Common.{◌≡◌, ◌≤◌, length, drop}
-use Rattle.script_reader.specs.Names.{key_of}
+-- The number so far and the bytes that are left write what all the bytes write.
+use Rattle.std.proofs.Common.{◌≡◌, ◌<◌, ◌^◌, drop}
+use Rattle.script_reader.specs.Names.{key_after, key_of}
 use Rattle.script_reader.proofs.name.key.Given as goal
 
-abbrev pub invariant-loop-left : goal.invariant-loop-left
-invariant-loop-left l = (l.left ≤ length l.name) × (l.key ≡ key_of (drop l.left l.name))
-
-abbrev pub decreases-loop-left : goal.decreases-loop-left
-decreases-loop-left l = l.left
+abbrev pub invariant-loop-byte : goal.invariant-loop-byte
+invariant-loop-byte l = (key_after l.key (drop l.byte-index l.name) ≡ key_of l.name) × (l.key < 256 ^ l.byte-index)
