@@ -1,9 +1,11 @@
 -- The words that are found from a line's beginning on.
-use Rattle.std.proofs.Common.{◌≡◌, ℕ, ◌+◌, ◌-◌, ◌<◌, ◌≤◌, true, List, [], ◌∷◌, length, drop, get_or, slice_index, slice_range, slice_set, refl, ap, sym, subst, ◌∙◌, inl, inr, arith, length-drop}
+use Rattle.std.proofs.Common.{◌≡◌, ◌⊎◌, ℕ, ◌+◌, ◌-◌, ◌<◌, ◌≤◌, ◌==◌, Bool, true, false, if◌then◌else◌, List, [], ◌∷◌, length, drop, get_or, slice_index, slice_range, slice_set, refl, ap, sym, subst, ◌∙◌, inl, inr, arith, length-drop}
 use Rattle.std.proofs.lemmas.Bool.{cases_lt}
-use Rattle.std.proofs.lemmas.List.{drop_all, drop_more, get_or-set_same, get_or-set_other, length-set}
-use Rattle.script_reader.specs.Text.{is_blank, words_of}
+use Rattle.std.proofs.lemmas.Bool.Decides.{nat_tests}
+use Rattle.std.proofs.lemmas.List.{drop_all, drop_more, get_or_past, get_or-set_same, get_or-set_other, length-set}
+use Rattle.script_reader.specs.Text.{is_blank, line_end, first_line, words_of}
 use Rattle.script_reader.specs.Words.{word_at, StandsAt, IsWordTo, HoldsWords}
+use Rattle.script_reader.proofs.FirstLine.{line_length, same_byte, byte_within}
 use Rattle.script_reader.proofs.Parts.{words_of_blank}
 
 -- so many words are found up to a place, and the places of the first 19 are kept
@@ -38,6 +40,26 @@ found_blank line starts ends count at h blank found = record {
   end_room = found.end_room;
   places = found.places;
 }
+
+is_space : (b : ℕ) → (b == 32) ≡ true → b ≡ 32
+is_space b h = grind (arith, nat_tests)
+
+-- past a space of a text's first line, if one stands there
+pub found_past : (text starts ends : List ℕ) (count at : ℕ) → Found (first_line text) starts ends count at → Found (first_line text) starts ends count (if slice_index text at == 32 then at + 1 else at)
+found_past text starts ends count at found = by (slice_index text at == 32) refl
+  where
+    by : (b : Bool) → (slice_index text at == 32) ≡ b → Found (first_line text) starts ends count (if b then at + 1 else at)
+    by true e =
+        let space : get_or text at 0 ≡ 32 = is_space (get_or text at 0) e in
+        let long = line_length text in
+        let inside : at < length text = within (cases_lt at (length text)) space in
+        let here : at < line_end text = byte_within text at (omega (arith, found.within, long)) inside (λ feed. omega (arith, space, feed)) in
+        found_blank (first_line text) starts ends count at (omega (arith, here, long)) (ap is_blank (same_byte text at here ∙ space)) found
+      where
+        within : (at < length text) ⊎ (length text ≤ at) → get_or text at 0 ≡ 32 → at < length text
+        within (inl before) space = before
+        within (inr past) space = absurd (omega (arith, get_or_past text at 0 past, space))
+    by false e = found
 
 -- a word more
 pub found_word : (line starts ends : List ℕ) (count at end : ℕ) → IsWordTo line at end → Found line starts ends count at → Found line (slice_set starts count at) (slice_set ends count end) (count + 1) end

@@ -1,5 +1,5 @@
 // The words of one line.
-ghost use Rattle.std.specs.Prelude.{◌≡◌, ◌==◌, ◌<◌, [], false, length, slice_index, slice_set};
+ghost use Rattle.std.specs.Prelude.{◌≡◌, ◌==◌, ◌<◌, ◌+◌, if◌then◌else◌, [], false, length, slice_index, slice_set};
 ghost use Rattle.script_reader.specs.Text.{is_blank, ends_word, line_end, first_line, words_of};
 ghost use Rattle.script_reader.specs.Words.{word_at, is_word_at, HoldsWords, IsWordTo};
 
@@ -46,6 +46,17 @@ fn keep(places: &mut [usize; MOST_WORDS], i: usize, place: usize)
     }
 }
 
+/// The place after a space that stands at a place, and else that place.
+fn past_space(text: &[u8], at: usize) -> usize
+    ensures { result ≡ (if slice_index text.now at == 32 then at + 1 else at) }
+{
+    if at < text.len() && text[at] == b' ' {
+        at + 1
+    } else {
+        at
+    }
+}
+
 /// Where the words of a text's first line begin and end, as far as places are kept, how many there are, and where the
 /// line ends.
 fn split(
@@ -69,7 +80,7 @@ fn split(
             keep(starts, count, at);
             keep(ends, count, end);
             count += 1;
-            at = end;
+            at = past_space(text, end);
         }
     }
     (count, at)

@@ -2,7 +2,7 @@
 use Rattle.std.proofs.Common.{◌+◌, slice_set, ap, sym, subst, ◌∙◌, arith}
 use Rattle.script_reader.specs.Text.{is_blank, first_line}
 use Rattle.script_reader.proofs.FirstLine.{line_length, same_byte, feed_ends, byte_within}
-use Rattle.script_reader.proofs.Found.{Found, found_all, found_blank, found_word}
+use Rattle.script_reader.proofs.Found.{Found, found_all, found_blank, found_past, found_word}
 use Rattle.script_reader.proofs.words.split.Goals as goal
 
 pub returns-then-text-at-eq10-clause-line : goal.returns-then-text-at-eq10-clause-line
@@ -29,7 +29,12 @@ word_end-end-requires-clause-within c =
 
 pub loop-at-preserved : goal.loop-at-preserved
 loop-at-preserved c =
-    let line = first_line c.args.text.now in
-    subst (λ starts. Found line starts c.keep-else-is_blank_byte.new.places (c.loop-at.count + 1) c.word_end-end.result) (sym c.keep.ensures)
-    (subst (λ ends. Found line (slice_set c.loop-at.starts c.loop-at.count c.loop-at.at) ends (c.loop-at.count + 1) c.word_end-end.result) (sym c.keep-else-is_blank_byte.ensures)
-    (found_word line c.loop-at.starts c.loop-at.ends c.loop-at.count c.loop-at.at c.word_end-end.result c.word_end-end.ensures c.loop-at.invariant))
+    let text = c.args.text.now in
+    let line = first_line text in
+    let starts = c.keep.new.places in
+    let ends = c.keep-else-is_blank_byte.new.places in
+    let found : Found line starts ends (c.loop-at.count + 1) c.word_end-end.result =
+    subst (λ s. Found line s ends (c.loop-at.count + 1) c.word_end-end.result) (sym c.keep.ensures)
+    (subst (λ e. Found line (slice_set c.loop-at.starts c.loop-at.count c.loop-at.at) e (c.loop-at.count + 1) c.word_end-end.result) (sym c.keep-else-is_blank_byte.ensures)
+    (found_word line c.loop-at.starts c.loop-at.ends c.loop-at.count c.loop-at.at c.word_end-end.result c.word_end-end.ensures c.loop-at.invariant)) in
+    subst (Found line starts ends (c.loop-at.count + 1)) (sym c.past_space-at.ensures) (found_past text starts ends (c.loop-at.count + 1) c.word_end-end.result found)
