@@ -5,6 +5,10 @@ use Rattle.std.proofs.lemmas.Grind.{pow_more}
 use Rattle.std.proofs.lemmas.Bool.{cases_Bool, cases_lt, leb-true}
 use Rattle.std.proofs.lemmas.Bool.Decides.{nat_tests}
 use Rattle.std.proofs.lemmas.List.{get_or_push, get_or-map, length-map}
+use Rattle.std.proofs.lemmas.List.Elements.{All-get_or}
+use Rattle.std.proofs.lemmas.List.Folds.{list_all-append}
+use Rattle.std.proofs.lemmas.List.Quantifiers.{position-Some}
+use Rattle.std.proofs.lemmas.List.Sums.{AllPass-from_list_all}
 use Rattle.std.proofs.lemmas.Slice.Eq.{bytes_eq-Decides}
 use denote.Ref.{Bor}
 use Rattle.std.specs.Cmp.{nat_cmp_is}
@@ -16,6 +20,7 @@ use Rattle.std.specs.BTreeMap.{BTreeMap, get, Updates}
 use Rattle.script_reader.specs.Names.{is_letter, is_letter_or_digit, is_name, key_after, key_of, rank_of, slot_of, AreSlotsOf}
 use Rattle.script_reader.proofs.Parts.{and_left, and_right}
 use Rattle.script_reader.proofs.Slots.{slot_more, slot_in, is_none}
+use Rattle.script_reader.proofs.Written.{both}
 
 -- ---- the number of a name so far
 
@@ -143,19 +148,30 @@ last_added names w none =
     ∙ ap (λ b. cond b (Some (length names)) (slot_of names w)) ((bytes_eq-Decides w w).1 refl)
     ∙ ap Some (sym count)
 
+more_named : (names : List (List ℕ)) (w : List ℕ) → list_all is_name names ≡ true → is_name w ≡ true → list_all is_name (names ++ w ∷ []) ≡ true
+more_named names w all h = list_all-append is_name names (w ∷ []) ∙ both _ _ all (both _ _ h refl)
+
+-- what has a slot is a name
+pub named_is : (names : List (List ℕ)) (w : List ℕ) (slot : ℕ) → list_all is_name names ≡ true → slot_of names w ≡ Some slot → is_name w ≡ true
+named_is names w slot all e =
+    let found = position-Some (bytes_eq w) names slot [] e in
+    let word : w ≡ get_or names slot [] = (bytes_eq-Decides w (get_or names slot [])).0 found.1 in
+    ap is_name word ∙ All-get_or (λ x. is_name x ≡ true) names slot [] found.0 (AllPass-from_list_all is_name names all)
+
 pub slots_added : (slots new : BTreeMap ℕ ℕ) (names : List (List ℕ)) (w : List ℕ) (slot rank : ℕ) → AreSlotsOf slots names → is_name w ≡ true → is_some (slot_of names w) ≡ false → rank ≡ rank_of w → slot ≡ length names
     → length names < 2 ^ 32 → Updates nat_cmp slots new rank (Some slot) → AreSlotsOf new (names ++ w ∷ [])
 slots_added slots new names w slot rank old h absent same count few updates =
     let none : slot_of names w ≡ None = is_none (slot_of names w) absent in
     record {
       few = omega (arith, few, length-append names (w ∷ []));
+      named = more_named names w old.named h;
       all = slots_more slots new names w slot rank old h none same count updates;
       last = λ _. last_added names w none;
     }
 
 -- the slots stay where a name's own slot is given again
 pub slots_kept : (slots new : BTreeMap ℕ ℕ) (names : List (List ℕ)) → AreSlotsOf slots names → ((q : ℕ) → get nat_cmp new q ≡ get nat_cmp slots q) → AreSlotsOf new names
-slots_kept slots new names old same = record { few = old.few; all = λ name k. same (rank_of name) ∙ old.all name k; last = old.last }
+slots_kept slots new names old same = record { few = old.few; named = old.named; all = λ name k. same (rank_of name) ∙ old.all name k; last = old.last }
 
 -- a slot that is given is no slot of the names before
 pub absent_is : (names : List (List ℕ)) (w : List ℕ) (o : Option ℕ) (slot next : ℕ) → o ≡ slot_of names w → slot ≡ unwrap_or o next → slot ≡ next → next ≡ length names → is_some (slot_of names w) ≡ false

@@ -53,5 +53,6 @@ rank_of name = 2 ^ 64 - 1 - key_of name
 -- what holds of names and of a map from their ranks to their slots
 pub record AreSlotsOf (slots : BTreeMap ℕ ℕ) (names : List (List ℕ)) : Type 0 where
   pub few : length names ≤ 2 ^ 32
+  pub named : list_all is_name names ≡ true
   pub all : (name : List ℕ) → is_name name ≡ true → get nat_cmp slots (rank_of name) ≡ slot_of names name
   pub last : 1 ≤ length names → slot_of names (slice_index_or names (length names - 1) []) ≡ Some (length names - 1)

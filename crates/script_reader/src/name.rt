@@ -91,36 +91,37 @@ impl<'a> Names<'a> {
         self.words.len()
     }
 
-    /// The slot of the last name, where it is this one.
-    fn last_slot(&self, name: &[u8]) -> Option<u32>
-        ensures { IfSome result (λ slot. slot_of self.now name.now ≡ Some slot) }
+    /// The slot of the last name, where it is this one. All that are kept are names, so this one is a name then.
+    fn last_slot(&self, word: &[u8]) -> Option<u32>
+        ensures slot { IfSome result (λ slot. slot_of self.now word.now ≡ Some slot) }
+        ensures named { IfSome result (λ slot. is_name word.now ≡ true) }
     {
         let count = self.words.len();
-        if count != 0 && self.words[count - 1] == name {
+        if count != 0 && self.words[count - 1] == word {
             return Some((count - 1) as u32);
         }
         None
     }
 
-    /// The slot of a name. It is looked for among all only where it isn't the last, which is meant most often.
+    /// The slot of a name, which is looked for among all.
     #[tactic(auto, using(crate::proofs::Keys::name_short))]
     fn slot(&self, name: &[u8]) -> Option<u32>
         requires { is_name name.now ≡ true }
         ensures value { result ≡ slot_of self.now name.now }
         ensures below { IfSome result (λ slot. slot < length self.now) }
     {
-        match self.last_slot(name) {
-            Some(slot) => Some(slot),
-            None => self.slots.get(&rank(name)).copied(),
-        }
+        self.slots.get(&rank(name)).copied()
     }
 
-    /// The slot of a name that a submission before has.
+    /// The slot of a name that a submission before has. The last is meant most often.
     #[tactic(auto, unfolding(crate::specs::Names::slot_at))]
     pub fn slot_at(&self, word: &[u8]) -> Result<u32, u8>
         ensures value { result ≡ slot_at self.now word.now }
         ensures below { IfOk result (λ slot. slot < length self.now) }
     {
+        if let Some(slot) = self.last_slot(word) {
+            return Ok(slot);
+        }
         if !is_name(word) {
             return Err(NOT_A_NAME);
         }

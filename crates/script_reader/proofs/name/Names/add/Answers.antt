@@ -3,6 +3,7 @@ use Rattle.std.proofs.Common.{◌≡◌, ◌^◌, ◌-◌, ◌≤◌, Some, get_
 use Rattle.std.proofs.lemmas.Grind.{common_steps}
 use Rattle.std.proofs.lemmas.List.{length-map, map_push}
 use Rattle.std.specs.BTreeMap.{get}
+use Rattle.std.specs.List.{list_all}
 use Rattle.std.specs.Ordering.{nat_cmp}
 use Rattle.std.specs.BTreeMap.Entry.{map_with_value, entry_value}
 use Rattle.script_reader.specs.Names.{is_name, slot_of}
@@ -26,6 +27,7 @@ invariant_of-self-else-slot-next c =
     (absent_is names c.args.word.now (entry_value c.in-Ok.entry) slot c.len-next.result old c.or_insert-slot.ensures.value given count) c.rank.ensures (given ∙ count) (omega (arith, length_is, c.requires)) (c.in-Ok.ensures.update.0 slot) in
     record {
       few = subst (λ ns. length ns ≤ 2 ^ 32) more added.few;
+      named = subst (λ ns. list_all is_name ns ≡ true) more added.named;
       all = λ q k. grind (arith, common_steps, added.all q k, ap (λ ns. slot_of ns q) more);
       last = subst (λ (ns : List (List ℕ)). 1 ≤ length ns → slot_of ns (get_or ns (length ns - 1) []) ≡ Some (length ns - 1)) more added.last;
     }
