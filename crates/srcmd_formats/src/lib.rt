@@ -9,7 +9,7 @@ ghost use Rattle.event_words.specs.Domains.{is_in_table, is_associated, is_enabl
 mod entries;
 
 pub use entries::{entry_grants, has_cfg_bit, refusal, violation};
-use event_words::{Kind, Register, Shape};
+use event_words::{Kind, Register};
 use register_fields::Regs;
 
 /// One bit of a number of 64 bits, as a test.
@@ -59,11 +59,10 @@ fn permissions(regs: &Regs, domain: u32) -> u64
 /// format 2.
 fn is_permitted(regs: &Regs, rrid: u32, domain: u32) -> bool
     requires format { regs.now.shape.srcmd ≡ 2 }
-    requires rrid { rrid < regs.now.shape.rrids }
-    requires domain { domain < regs.now.shape.domains }
+    requires rrid { rrid < 32 }
+    requires domain { domain < 64 }
     ensures { result ≡ is_in_table regs.now rrid domain }
 {
-    let _shape = regs.shape();
     let permissions = permissions(regs, domain);
     has_bit(permissions, 2 * rrid) || has_bit(permissions, 2 * rrid + 1)
 }
@@ -125,14 +124,13 @@ pub fn has_domain(domains: u64, domain: u8) -> bool
     has_bit(domains, domain as u32)
 }
 
-/// The domains of a requester that is known, where the shape has been read before: bit m is 1 exactly
-/// where the requester is associated with domain m of the shape.
-pub fn known_domains_of(regs: &Regs, shape: &Shape, rrid: u8) -> u64
-    requires shape { shape.now ≡ regs.now.shape }
-    requires rrid { rrid < regs.now.shape.rrids }
+/// The domains of a requester that is known: bit m is 1 exactly where the requester is associated with
+/// domain m of the shape.
+pub fn known_domains_of(regs: &Regs, rrid: u8) -> u64
+    requires { rrid < regs.now.shape.rrids }
     ensures { (m : ℕ) → has_bit result m ≡ is_associated regs.now rrid m }
 {
-    let _shape = regs.shape();
+    let shape = regs.shape();
     match shape.srcmd {
         0 => by_bits(enables(regs, rrid as u32), shape.domains),
         1 => by_number(rrid, shape.domains),
@@ -147,9 +145,8 @@ pub fn known_domains_of(regs: &Regs, shape: &Shape, rrid: u8) -> u64
 pub fn domains_of(regs: &Regs, rrid: u8) -> u64
     ensures { (m : ℕ) → has_bit result m ≡ is_associated regs.now rrid m }
 {
-    let shape = regs.shape();
-    if rrid < shape.rrids {
-        known_domains_of(regs, shape, rrid)
+    if rrid < regs.shape().rrids {
+        known_domains_of(regs, rrid)
     } else {
         0
     }

@@ -11,7 +11,7 @@ ghost use Rattle.event_words.specs.Stalls.{flag_of, is_selected_domain, is_selec
 ghost use Rattle.stall_control.specs.Counts.{Stalls, count_in, more_at, less_at, is_busy_at, none_stalled, is_busy_with, busy_count, one};
 ghost use Rattle.stall_control.specs.Selections.{is_among};
 
-use event_words::{Register, Shape};
+use event_words::Register;
 use register_fields::{Regs, has_bit, joined};
 use srcmd_formats::known_domains_of;
 use std::marker::Model;
@@ -48,12 +48,11 @@ fn selection(regs: &Regs, value: u32) -> u64
 }
 
 /// Whether the requester, which is known, is associated with a domain of a mask.
-fn is_among(regs: &Regs, shape: &Shape, domains: u64, rrid: u8) -> bool
-    requires shape { shape.now ≡ regs.now.shape }
-    requires rrid { rrid < regs.now.shape.rrids }
+fn is_among(regs: &Regs, domains: u64, rrid: u8) -> bool
+    requires { rrid < regs.now.shape.rrids }
     ensures { result ≡ is_among regs.now domains rrid }
 {
-    domains & known_domains_of(regs, shape, rrid) != 0
+    domains & known_domains_of(regs, rrid) != 0
 }
 
 /// 1 for a requester that is stalled and has a transaction in flight, else 0.
@@ -74,12 +73,11 @@ fn set_flags(regs: &Regs, value: u32, flags: &mut [bool], counts: &[u32]) -> u8
 {
     let exempt = has_bit(value, 0);
     let domains = selection(regs, value);
-    let shape = *regs.shape();
     let mut draining = 0;
-    for rrid in 0..flags.len() {
-        let stalled = exempt != is_among(regs, &shape, domains, rrid as u8);
-        flags[rrid] = stalled;
-        draining += draining_at(stalled, counts[rrid]);
+    for rrid in 0..regs.shape().rrids {
+        let stalled = exempt != is_among(regs, domains, rrid);
+        flags[rrid as usize] = stalled;
+        draining += draining_at(stalled, counts[rrid as usize]);
     }
     draining
 }

@@ -17,20 +17,20 @@ in_permissions r s m k e h = h ∙ rw e refl
 pub returns-in-0 : goal.returns-in-0
 returns-in-0 c = λ m.
     let r = c.args.regs.now in
-    let s = c.args.shape.now in
-    let d : s.domains ≡ r.shape.domains = ap (λ (s : Shape). s.domains) c.requires.shape in
-    let f : s.srcmd ≡ r.shape.srcmd = ap (λ (s : Shape). s.srcmd) c.requires.shape in
-    in_bits r c.args.rrid s.domains m c.by_bits.result c.enables.result (lt-ltb c.args.rrid r.shape.rrids c.requires.rrid) (sym f ∙ c.in-0.is) d (c.enables.ensures m) (c.by_bits.ensures m)
+    let s : Shape = c.shape-shape.result.now in
+    let d : s.domains ≡ r.shape.domains = ap (λ (s : Shape). s.domains) c.shape-shape.ensures.value in
+    let f : s.srcmd ≡ r.shape.srcmd = ap (λ (s : Shape). s.srcmd) c.shape-shape.ensures.value in
+    in_bits r c.args.rrid s.domains m c.by_bits.result c.enables.result (lt-ltb c.args.rrid r.shape.rrids c.requires) (sym f ∙ c.in-0.is) d (c.enables.ensures m) (c.by_bits.ensures m)
 
 pub returns-in-1 : goal.returns-in-1
 returns-in-1 c = λ m.
     let r = c.args.regs.now in
-    let s = c.args.shape.now in
-    let d : s.domains ≡ r.shape.domains = ap (λ (s : Shape). s.domains) c.requires.shape in
-    let f : s.srcmd ≡ r.shape.srcmd = ap (λ (s : Shape). s.srcmd) c.requires.shape in
-    in_number r c.args.rrid s.domains m c.by_number.result (lt-ltb c.args.rrid r.shape.rrids c.requires.rrid) (sym f ∙ c.in-1.is) d (c.by_number.ensures m)
+    let s : Shape = c.shape-shape.result.now in
+    let d : s.domains ≡ r.shape.domains = ap (λ (s : Shape). s.domains) c.shape-shape.ensures.value in
+    let f : s.srcmd ≡ r.shape.srcmd = ap (λ (s : Shape). s.srcmd) c.shape-shape.ensures.value in
+    in_number r c.args.rrid s.domains m c.by_number.result (lt-ltb c.args.rrid r.shape.rrids c.requires) (sym f ∙ c.in-1.is) d (c.by_number.ensures m)
 
 pub returns-in_default : goal.returns-in_default
 returns-in_default c = λ m.
     let r = c.args.regs.now in
-    in_permissions r c.args.rrid m c.by_permissions.result (lt-ltb c.args.rrid r.shape.rrids c.requires.rrid) (c.by_permissions.ensures m)
+    in_permissions r c.args.rrid m c.by_permissions.result (lt-ltb c.args.rrid r.shape.rrids c.requires) (c.by_permissions.ensures m)
