@@ -94,7 +94,6 @@ fn split_lane(
         replies,
     } = player;
     let caller = split(shared, first, replica);
-    let _left = caller.left();
     Ok(Lane::new(alloc, section, Port::telling(caller, replies))?)
 }
 

@@ -22,7 +22,6 @@ fn is_entry_of(regs: &Regs, rrid: u8, entry: u16) -> bool
     requires { entry < regs.now.shape.entries }
     ensures { result ≡ is_entry_of regs.now rrid entry }
 {
-    let _shape = regs.shape();
     match domain_of(regs, entry) {
         None => false,
         Some(domain) => has_domain(domains_of(regs, rrid), domain),

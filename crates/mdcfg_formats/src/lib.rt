@@ -27,6 +27,7 @@ pub fn domain_of(regs: &Regs, entry: u16) -> Option<u8>
     requires { entry < regs.now.shape.entries }
     ensures value { result ≡ owner_of regs.now entry }
     ensures small { IfSome result (λ domain. domain < regs.now.shape.domains) }
+    ensures below { IfSome result (λ domain. domain < 64) }
 {
     let shape = regs.shape();
     for domain in 0..shape.domains {
