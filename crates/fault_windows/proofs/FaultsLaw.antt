@@ -15,7 +15,7 @@ use Rattle.unit_core.specs.Submissions.{SubmittedAccess, submitted}
 use Rattle.unit_core.specs.Units.{taken_as}
 use Rattle.unit_core.specs.Histories.{History, aims_at, event_at, reply_at}
 use Rattle.unit_core.specs.Submitted.{taken_at}
-use Rattle.unit_core.proofs.UnitSteps.{taken_valid}
+use Rattle.unit_core.proofs.TakenEvents.{taken_valid}
 use Rattle.fault_windows.specs.LateViolations.{requester_in, requester_of, is_late_by, is_late}
 use Rattle.fault_windows.specs.Windows.{is_reading, window_of, is_in_window, window_bits, next_window, is_pending, pending_after, shown_before, pending_at, turn_at, window_at}
 use Rattle.fault_windows.specs.Laws.{HasBitOf, ShowsRequester, IsNextReading, IsUnshownBetween, HasLateViolation, LawFaults}

@@ -15,7 +15,7 @@ use Rattle.update_planner.specs.Gives.{section_with}
 use Rattle.unit_core.specs.Histories.{History, aims_at, history_of, logged_in}
 use Rattle.unit_core.specs.Submitted.{IsSubmission, taken_at}
 use Rattle.unit_core.specs.Units.{taken_as}
-use Rattle.unit_core.proofs.UnitSteps.{taken_valid}
+use Rattle.unit_core.proofs.TakenEvents.{taken_valid}
 use Rattle.history_laws.specs.Live.{LawLive}
 use Rattle.history_laws.proofs.WordHistories.{events_at_words, event_at_words, word_at_place}
 use Rattle.unit_core.proofs.Runs.{submit_of}

@@ -1,6 +1,7 @@
 -- What the parts of one unit do: its registers, its stall state and its queue, without the words
 -- of open submissions.
-use Rattle.std.specs.Prelude.{◌≡◌, ℕ, ◌+◌, ◌*◌, ◌^◌, ◌==◌, ◌&&◌, ◌||◌, nat_lt, Bool, true, false, not, List, [], ◌∷◌, ◌++◌, if◌then◌else◌, filter, count_by, length, unwrap_or}
+use Rattle.std.specs.Prelude.{◌≡◌, ℕ, ◌+◌, ◌*◌, ◌^◌, ◌≤◌, ◌==◌, ◌&&◌, ◌||◌, nat_lt, Bool, true, false, not, List, [], ◌∷◌, ◌++◌, if◌then◌else◌, filter, count_by, length, unwrap_or}
+use Rattle.std.specs.List.{AllByRecursion}
 use Rattle.event_words.specs.declared.access.Access.{Access}
 use Rattle.event_words.specs.declared.reply.Denial.{Denial}
 use Rattle.event_words.specs.declared.reply.Decision.{Decision}
@@ -82,3 +83,10 @@ part_verdict x a decisions.Allowed =
 part_verdict x a (decisions.Denied kind entry mute_irq mute_err) =
     let d = denial x.regs kind entry mute_irq mute_err in
     (record (with_counts x (less_at x.stall.counts a.rrid)) { regs = recorded x.regs a d }, verdicts.Denied d)
+
+-- A unit that can take a register write: whoever is queued is stalled, and all of them have room in flight.
+pub record CanWrite (x : IopmpUnit) : Type 0 where
+  pub flags : length x.stall.flags ≡ x.regs.shape.rrids
+  pub len : length x.stall.counts ≡ x.regs.shape.rrids
+  pub room : (s : ℕ) → count_in x.stall.counts s + count_by (is_of s) x.queue.items ≤ 1048576
+  pub held : AllByRecursion (IsHeld x.stall.flags) x.queue.items
