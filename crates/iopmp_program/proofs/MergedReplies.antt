@@ -1,7 +1,7 @@
 -- What is merged of the replies that all callers kept is what the units reply at each place.
 use Rattle.std.proofs.Common.{◌≡◌, ℕ, zero, suc, ◌+◌, ◌<◌, get_or, set, replicate, add-one, ◌≤◌, Bool, true, false, cond, List, [], ◌∷◌, ◌++◌, Option, None, Some, length, map, take, refl, sym, ap, subst, ◌∙◌, arith, eq-eqb, append-nil, length-append, inl, inr}
 use Rattle.std.proofs.lemmas.Bool.{eqb-true}
-use Rattle.std.proofs.lemmas.List.{take_more, length-take-le, get_or-set_same, get_or-set_other}
+use Rattle.std.proofs.lemmas.List.{take_more, take_all, length-take-le, get_or-set_same, get_or-set_other}
 use Rattle.std.specs.Prelude.{◌==◌, IfSome, slice_get, slice_index_or}
 use Rattle.std.specs.Global.{Vec}
 use Rattle.event_words.specs.declared.record.LoggedEvent.{LoggedEvent}
@@ -25,7 +25,7 @@ use Rattle.checker_workers.specs.Lanes.{LaneView}
 use Rattle.checker_workers.specs.Told.{reply_in, own_replies}
 use Rattle.iopmp_program.specs.declared.reports.told.Seen.{Seen}
 use Rattle.iopmp_program.specs.KeptReplies.{IsKept, AreKept, IsOneOf, IsSeenBy}
-use Rattle.iopmp_program.specs.MergedReplies.{replies_by, list_of, AreFirstOf, IsToldBy}
+use Rattle.iopmp_program.specs.MergedReplies.{replies_by, list_of, AreFirstOf, AreRepliesTo, IsToldBy}
 use Rattle.iopmp_program.specs.ToldHistories.{replies_from, logged_with}
 use Rattle.iopmp_program.specs.PlayedSections.{HasPlayed, AreReadyLanes, RunsTo}
 use Rattle.iopmp_program.proofs.PlayedSections.{all_ran}
@@ -80,6 +80,50 @@ same_replies (w ∷ ws) (r ∷ rs) (q ∷ qs) m n each =
     same_replies ws rs qs (let e : suc (length rs) ≡ suc (length ws) = m in omega (arith, e)) (let e : suc (length qs) ≡ suc (length ws) = n in omega (arith, e))
     (λ d lt. behind_first (caller_of_word w == d) r (replies_by d ws rs) q (replies_by d ws qs) (each d lt)) in
     ap (λ x. x ∷ rs) first ∙ ap (λ l. q ∷ l) rest
+
+-- ---- the replies of one caller that has all words
+
+few_by : (c : ℕ) (ws : List ℕ) (rs : List Reply) → length (replies_by c ws rs) ≤ length ws
+few_by c [] rs = omega arith
+few_by c (w ∷ ws) [] = omega arith
+few_by c (w ∷ ws) (r ∷ rs) = at (caller_of_word w == c) (few_by c ws rs)
+  where
+    at : (b : Bool) → length (replies_by c ws rs) ≤ length ws → length (cond b (r ∷ replies_by c ws rs) (replies_by c ws rs)) ≤ suc (length ws)
+    at true few = omega (arith, few)
+    at false few = omega (arith, few)
+
+whole_by : (c : ℕ) (ws : List ℕ) (rs : List Reply) → length rs ≡ length ws → length ws ≤ length (replies_by c ws rs) → replies_by c ws rs ≡ rs
+whole_by c [] [] m l = refl
+whole_by c [] (r ∷ rs) m l = absurd (let e : suc (length rs) ≡ zero = m in cc)
+whole_by c (w ∷ ws) [] m l = refl
+whole_by c (w ∷ ws) (r ∷ rs) m l = at (caller_of_word w == c) (whole_by c ws rs (let e : suc (length rs) ≡ suc (length ws) = m in omega (arith, e))) l
+  where
+    at : (b : Bool) → (length ws ≤ length (replies_by c ws rs) → replies_by c ws rs ≡ rs) → suc (length ws) ≤ length (cond b (r ∷ replies_by c ws rs) (replies_by c ws rs))
+        → cond b (r ∷ replies_by c ws rs) (replies_by c ws rs) ≡ r ∷ rs
+    at true again more = ap (λ xs. r ∷ xs) (again (omega (arith, more)))
+    at false again more = absurd (omega (arith, more, few_by c ws rs))
+
+short_first : (n : ℕ) (ys : List Reply) → length (take n ys) ≤ length ys
+short_first zero ys = omega arith
+short_first (suc n) [] = omega arith
+short_first (suc n) (y ∷ ys) = omega (arith, short_first n ys)
+
+whole_first : (n : ℕ) (ys : List Reply) → length ys ≤ length (take n ys) → take n ys ≡ ys
+whole_first zero [] l = refl
+whole_first zero (y ∷ ys) l = absurd (omega (arith, l))
+whole_first (suc n) [] l = refl
+whole_first (suc n) (y ∷ ys) l = ap (λ xs. y ∷ xs) (whole_first n ys (omega (arith, l)))
+
+first_of_all : {xs ys : List Reply} → xs ≡ ys → AreFirstOf xs ys
+first_of_all {xs} {ys} e = (length ys, e ∙ sym (take_all (length ys) ys (omega arith)))
+
+-- As many as the words are all of them.
+all_of_first : (c : ℕ) (ws : List ℕ) (xs rs : List Reply) → length xs ≡ length ws → length rs ≡ length ws → AreFirstOf xs (replies_by c ws rs) → xs ≡ rs
+all_of_first c ws xs rs m k f =
+    let e = ap length f.1 in
+    let s = short_first f.0 (replies_by c ws rs) in
+    let few = few_by c ws rs in
+    f.1 ∙ whole_first f.0 (replies_by c ws rs) (omega (arith, e, m, few)) ∙ whole_by c ws rs k (omega (arith, e, m, s))
 
 -- ---- what all callers kept
 
@@ -142,16 +186,26 @@ errors_of s history callers seen held is all =
 pub told_by : (shapes : List Shape) (history : List ℕ) (callers : List PortView) (kept : List (Option (Vec Reply))) (seen : Seen) → AllEventWords history
     → ((k : ℕ) (d : PortView) → k < length callers → IsHeld (fabric_at_reset shapes) history k (slice_index_or callers k d))
     → AreKept callers kept → IsSeenBy callers seen → IsToldBy shapes history kept seen
-told_by shapes history callers kept seen events held are saw replies merged all =
-    let s : FabricState = fabric_at_reset shapes in
-    let told : List Reply = replies_from 0 s history in
-    let each = λ (c : ℕ) (lt : c < 32). first_of_own (λ k. replies_by k history told) c callers kept are (λ k d h. own_in s history k _ events (held k d h)) (replies_by c history replies.items) (merged.each c lt) in
-    let same : replies.items ≡ told = same_replies history replies.items told merged.count (as_many_replies 0 s history) each in
+told_by shapes history callers kept seen events held are saw replies given all =
+    let same = are_told given in
     record {
-      count = merged.count;
+      count = ap length same ∙ as_many_replies 0 s history;
       events = ap (logged_with 0 history) same ∙ logged_replies 0 s history;
       units = errors_of s history callers seen held saw all;
     }
+  where
+    s : FabricState
+    s = fabric_at_reset shapes
+
+    told : List Reply
+    told = replies_from 0 s history
+
+    own_first : (c : ℕ) (xs : List Reply) → AreFirstOf xs (list_of kept c) → AreFirstOf xs (replies_by c history told)
+    own_first c = first_of_own (λ k. replies_by k history told) c callers kept are (λ k d h. own_in s history k _ events (held k d h))
+
+    are_told : AreRepliesTo kept history replies.items → replies.items ≡ told
+    are_told (inl one) = all_of_first 0 history replies.items told one.count (as_many_replies 0 s history) (own_first 0 replies.items (first_of_all one.first))
+    are_told (inr merged) = same_replies history replies.items told merged.count (as_many_replies 0 s history) (λ c lt. own_first c (replies_by c history replies.items) (merged.each c lt))
 
 -- ---- one word more
 

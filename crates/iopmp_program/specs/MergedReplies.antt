@@ -1,5 +1,5 @@
 -- The replies to a history's words, made of those that each caller kept.
-use Rattle.std.specs.Prelude.{◌≡◌, ℕ, ◌<◌, ◌==◌, if◌then◌else◌, List, [], ◌∷◌, Option, Some, None, length, take, slice_get}
+use Rattle.std.specs.Prelude.{◌≡◌, ◌⊎◌, ℕ, ◌<◌, ◌==◌, if◌then◌else◌, List, [], ◌∷◌, Option, Some, None, length, take, slice_get}
 use Rattle.std.specs.Global.{Vec}
 use Rattle.event_words.specs.declared.reply.Reply.{Reply}
 use Rattle.event_words.specs.declared.shape.Shape.{Shape}
@@ -30,7 +30,16 @@ pub record IsMerged (kept : List (Option (Vec Reply))) (words : List ℕ) (repli
   pub count : length replies ≡ length words
   pub each : (c : ℕ) → c < 32 → AreFirstOf (replies_by c words replies) (list_of kept c)
 
--- What is told of a history by replies that are merged and the errors that were seen, where all its events were seen.
+-- One caller alone has a reply a word: the first, whose list this is.
+pub record IsListOfAll (kept : List (Option (Vec Reply))) (words : List ℕ) (replies : List Reply) : Type 0 where
+  pub first : replies ≡ list_of kept 0
+  pub count : length replies ≡ length words
+
+-- Replies to words, by what their callers kept.
+abbrev pub AreRepliesTo : List (Option (Vec Reply)) → List ℕ → List Reply → Type 0
+AreRepliesTo kept words replies = IsListOfAll kept words replies ⊎ IsMerged kept words replies
+
+-- What is told of a history by such replies and the errors that were seen, where all its events were seen.
 abbrev pub IsToldBy : List Shape → List ℕ → List (Option (Vec Reply)) → Seen → Type 0
 IsToldBy shapes history kept seen =
-    (replies : Vec Reply) → IsMerged kept history replies.items → seen.events ≡ length history → IsToldOf (record { replies = replies; errors = seen.errors }) shapes history
+    (replies : Vec Reply) → AreRepliesTo kept history replies.items → seen.events ≡ length history → IsToldOf (record { replies = replies; errors = seen.errors }) shapes history

@@ -214,7 +214,7 @@ fn tell(alloc: Global, shapes: &[Shape], closed: Closed) -> Result<ToldHistory, 
         kept,
         seen,
     } = closed;
-    let told = told_or_replayed(alloc, shapes, history.words(), &kept, seen)?;
+    let told = told_or_replayed(alloc, shapes, history.words(), kept, seen)?;
     Ok(ToldHistory { history, told })
 }
 

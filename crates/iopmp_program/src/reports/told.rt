@@ -8,7 +8,7 @@ ghost use Rattle.unit_core.specs.Reports.{unit_lines};
 ghost use Rattle.iopmp_program.specs.MergedReplies.{IsToldBy};
 ghost use Rattle.iopmp_program.specs.ToldHistories.{replies_from, IsToldOf};
 
-use super::merged::merged;
+use super::merged::replies_to_all;
 use super::push_units;
 use crate::memory::NoMemory;
 use event_words::{Line, Machine, Reply, Shape};
@@ -73,20 +73,20 @@ pub fn told_or_replayed(
     alloc: Global,
     shapes: &[Shape],
     words: &[u64],
-    kept: &[Option<Vec<Reply>>],
+    kept: Vec<Option<Vec<Reply>>>,
     seen: Seen,
 ) -> Result<Told, NoMemory>
     requires count { (1 ≤ length shapes.now) × (length shapes.now ≤ 4) }
     requires shapes { AllByRecursion IsValidShape shapes.now }
     requires few { length words.now ≤ 1048576 }
-    requires told { IsToldBy shapes.now words.now kept.now seen }
+    requires told { IsToldBy shapes.now words.now kept.items seen }
     ensures { IfOk result (λ told. IsToldOf told shapes.now words.now) }
 {
     let Seen { events, errors } = seen;
     if events as usize != words.len() {
         return replayed(alloc, shapes, words);
     }
-    match merged(alloc, kept, words)? {
+    match replies_to_all(alloc, kept, words)? {
         Some(replies) => Ok(Told { replies, errors }),
         None => replayed(alloc, shapes, words),
     }
