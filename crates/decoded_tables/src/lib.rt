@@ -16,6 +16,7 @@ mod marks;
 mod priority;
 #[cfg(test)]
 mod tests;
+mod uncounted;
 
 pub use decoded::Decoded;
 pub use event_words::Steps;
