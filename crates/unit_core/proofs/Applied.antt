@@ -1,12 +1,13 @@
 -- What a word does to a fabric, for which a place was added to what is kept.
-use Rattle.std.proofs.Common.{◌≡◌, ℕ, ◌++◌, List, [], ◌∷◌, length, take, sym, ap, ◌∙◌, subst}
+use Rattle.std.proofs.Common.{◌≡◌, ℕ, ◌+◌, ◌<◌, ◌++◌, List, [], ◌∷◌, length, length-append, take, arith, sym, ap, ◌∙◌, subst}
 use Rattle.std.proofs.Math.Seq.{take-append_seam}
 use Rattle.unit_core.specs.declared.parts.IopmpUnit.{IopmpUnit}
 use Rattle.unit_core.specs.declared.places.Kept.{Kept}
 use Rattle.unit_core.specs.Units.{UnitState, FabricState, word_step}
-use Rattle.unit_core.specs.Places.{nothing_kept, states_of}
+use Rattle.unit_core.specs.Places.{nothing_kept, MayStep, states_of}
 use Rattle.unit_core.specs.Fabrics.{FabricView, IsWhole, fabric_view}
 use Rattle.unit_core.proofs.Keeping.{all_kept_pushed}
+use Rattle.unit_core.proofs.Rooms.{blank_pushed}
 use Rattle.unit_core.proofs.States.{states_pushed, tied_pushed}
 
 pub refilled : {X : Type 0} (n : ℕ) (xs ys : List X) → length xs ≡ n → take n (xs ++ ys) ≡ xs
@@ -22,6 +23,18 @@ whole_pushed units kept room h = record {
   valid = all_kept_pushed kept h.valid;
   agrees = tied_pushed 0 units kept h.agrees;
 }
+
+-- A step at the place that was added can begin.
+pub may_step : (p room : ℕ) (units us : List IopmpUnit) (kept ws : List Kept) → IsWhole units kept room → p ≡ length kept → p < room → us ≡ units → ws ≡ kept ++ nothing_kept ∷ [] → MayStep p us ws
+may_step p room units us kept ws h e l same_units same_kept =
+    let n : length ws ≡ length kept + 1 = ap length same_kept ∙ length-append kept (nothing_kept ∷ []) in
+    record {
+      agrees = rw (same_units, same_kept) (tied_pushed 0 units kept h.agrees);
+      all_valid = rw same_kept (all_kept_pushed kept h.valid);
+      room = omega (arith, n, e);
+      few = omega (arith, n, e, l, h.places);
+      blank = rw (same_kept, e) (blank_pushed kept);
+    }
 
 -- the state that a fabric is seen in
 viewed : (units : List IopmpUnit) (aims : List ℕ) (kept : List Kept) (room : ℕ) (v : FabricView) → fabric_view units aims kept room ≡ v → v.state ≡ both (states_of 0 units kept) aims

@@ -16,7 +16,7 @@ returns-else-at-units-clause-taken c = λ p. none_taken p (Judge c.args.unit c.a
 
 pub returns-then-at-units-clause-reply : goal.returns-then-at-units-clause-reply
 returns-then-at-units-clause-reply c =
-    λ p. c.judge_at.ensures.reply ∙ step_reply p (Judge c.args.unit c.args.caller c.args.judged) c.args.unit c.args.units.now c.index-units-at.result c.args.kept.now refl (omega arith)
+    λ a p. c.judge_at.ensures.reply a ∙ step_reply p (Judge c.args.unit c.args.caller c.args.judged) c.args.unit c.args.units.now c.index-units-at.result c.args.kept.now refl (omega arith)
 
 pub returns-else-at-units-clause-reply : goal.returns-else-at-units-clause-reply
-returns-else-at-units-clause-reply c = λ p. none_reply p (Judge c.args.unit c.args.caller c.args.judged) c.args.unit c.args.units.now c.args.kept.now refl (omega arith)
+returns-else-at-units-clause-reply c = λ a p. none_reply p (Judge c.args.unit c.args.caller c.args.judged) c.args.unit c.args.units.now c.args.kept.now refl (omega arith)

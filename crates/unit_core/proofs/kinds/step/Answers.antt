@@ -3,10 +3,10 @@ use Rattle.unit_core.proofs.UnitSteps.{can_write, read_leaves}
 use Rattle.unit_core.proofs.kinds.step.Goals as goal
 
 pub write_on-requires : goal.write_on-requires
-write_on-requires c = can_write c.args.place c.args.units.now c.args.kept.now c.requires.blank c.requires.room c.requires.few c.requires.agrees
+write_on-requires c = can_write c.args.place c.args.units.now c.args.kept.now c.requires.ready.blank c.requires.ready.room c.requires.ready.few c.requires.ready.agrees
 
 pub returns-in-RegWrite-clause-agrees : goal.returns-in-RegWrite-clause-agrees
-returns-in-RegWrite-clause-agrees c = (c.write_on.ensures.taken c.args.kept.now c.args.place c.in-RegWrite.caller c.requires.agrees).agrees
+returns-in-RegWrite-clause-agrees c = (c.write_on.ensures.taken c.args.kept.now c.args.place c.in-RegWrite.caller c.requires.ready.agrees).agrees
 
 pub returns-in-Judge-clause-agrees : goal.returns-in-Judge-clause-agrees
 returns-in-Judge-clause-agrees c = (c.judge_on.ensures.taken c.args.place).agrees

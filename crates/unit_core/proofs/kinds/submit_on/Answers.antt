@@ -4,22 +4,21 @@ use Rattle.unit_core.proofs.UnitSteps.{tied_in, stepped, step_reply, none_taken,
 use Rattle.unit_core.proofs.kinds.submit_on.Goals as goal
 
 pub submit_at-requires-clause-agrees : goal.submit_at-requires-clause-agrees
-submit_at-requires-clause-agrees c = tied_in c.args.unit c.args.units.now c.index-units-at.result c.args.kept.now (omega arith) c.requires.agrees
+submit_at-requires-clause-agrees c = tied_in c.args.unit c.args.units.now c.index-units-at.result c.args.kept.now (omega arith) c.requires.ready.agrees
 
 pub returns-then-at-units : goal.returns-then-at-units
 returns-then-at-units c =
     let s = c.submit_at.ensures in
-    let a = stepped c.args.place (Submit c.args.unit c.args.caller c.args.access.now) c.args.unit c.args.units.now c.index-units-at.result c.submit_at.new.unit c.args.kept.now c.submit_at.new.kept refl (omega arith) c.requires.agrees s.others s.agrees s.state in
+    let a = stepped c.args.place (Submit c.args.unit c.args.caller c.args.access.now) c.args.unit c.args.units.now c.index-units-at.result c.submit_at.new.unit c.args.kept.now c.submit_at.new.kept refl (omega arith) c.requires.ready.agrees s.others s.agrees s.state in
     record {
-      agrees = a.agrees;
       all_valid = s.all_valid;
-      state = a.state;
+      taken = a;
       reply = s.reply ∙ step_reply c.args.place (Submit c.args.unit c.args.caller c.args.access.now) c.args.unit c.args.units.now c.index-units-at.result c.args.kept.now refl (omega arith);
     }
 
-pub returns-else-at-units-clause-state : goal.returns-else-at-units-clause-state
-returns-else-at-units-clause-state c =
-    (none_taken c.args.place (Submit c.args.unit c.args.caller c.args.access.now) c.args.unit c.args.units.now c.args.kept.now refl (omega arith) c.requires.agrees).state
+pub returns-else-at-units-clause-taken : goal.returns-else-at-units-clause-taken
+returns-else-at-units-clause-taken c =
+    none_taken c.args.place (Submit c.args.unit c.args.caller c.args.access.now) c.args.unit c.args.units.now c.args.kept.now refl (omega arith) c.requires.ready.agrees
 
 pub returns-else-at-units-clause-reply : goal.returns-else-at-units-clause-reply
 returns-else-at-units-clause-reply c =

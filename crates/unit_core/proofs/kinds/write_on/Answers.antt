@@ -11,12 +11,16 @@ write-requires c =
 
 pub returns-then-at-units : goal.returns-then-at-units
 returns-then-at-units c = record {
-  taken = write_taken c.args.unit c.args.index c.args.value c.args.units.now c.index-units-at.result c.write.new.unit (omega arith) c.write.ensures;
-  reply = λ ws p caller t. ap replies.Value c.read.ensures ∙ write_reply c.args.unit c.args.index c.args.value c.args.units.now c.index-units-at.result c.write.new.unit (omega arith) c.write.ensures ws p caller t;
+  taken = λ ws p caller t. none_taken p (RegWrite c.args.unit caller c.args.index c.args.value) c.args.unit c.args.units.now ws refl (omega arith) t;
+  reply = λ a ws p caller t. none_reply p (RegWrite c.args.unit caller c.args.index c.args.value) c.args.unit c.args.units.now ws refl (omega arith);
 }
 
-pub returns-else-at-units : goal.returns-else-at-units
-returns-else-at-units c = record {
-  taken = λ ws p caller t. none_taken p (RegWrite c.args.unit caller c.args.index c.args.value) c.args.unit c.args.units.now ws refl (omega arith) t;
-  reply = λ ws p caller t. none_reply p (RegWrite c.args.unit caller c.args.index c.args.value) c.args.unit c.args.units.now ws refl (omega arith);
+pub returns-then-asked : goal.returns-then-asked
+returns-then-asked c = record {
+  taken = write_taken c.args.unit c.args.index c.args.value c.args.units.now c.index-units-at.result c.write.new.unit (omega arith) c.write.ensures;
+  reply = λ a ws p caller t. ap replies.Value c.read.ensures ∙ write_reply c.args.unit c.args.index c.args.value c.args.units.now c.index-units-at.result c.write.new.unit (omega arith) c.write.ensures ws p caller t;
 }
+
+pub returns-else-asked-clause-taken : goal.returns-else-asked-clause-taken
+returns-else-asked-clause-taken c =
+    write_taken c.args.unit c.args.index c.args.value c.args.units.now c.index-units-at.result c.write.new.unit (omega arith) c.write.ensures
