@@ -16,6 +16,29 @@ const STALL_FIRST: Command = Command::Write {
     value: 0x4000_0000,
 };
 
+/// The poll of MDSTALL that waits until no stalled requester is busy.
+const POLL: Command = Command::Until {
+    unit: 0,
+    index: 0x30 / 4,
+    mask: 1,
+    value: 0,
+    max: 8,
+};
+
+/// The write of the configuration of entry 0 that gives requester 0 its new right.
+const NEW_RIGHT: Command = Command::Write {
+    unit: 0,
+    index: 0x2008 / 4,
+    value: 0x1b,
+};
+
+/// The write of MDSTALL that releases all requesters.
+const RELEASE: Command = Command::Write {
+    unit: 0,
+    index: 0x30 / 4,
+    value: 0,
+};
+
 const MAY_BE_READ: &str = "size = 0x1000, rights = \"r\"";
 
 const MAY_BE_WRITTEN: &str = "size = 0x1000, rights = \"rw\"";
@@ -55,6 +78,9 @@ fn the_requester_with_a_new_right_is_stalled(rt: HostRuntime) -> Result<(), Fail
     let rest = whole.section.commands.get(1..);
     assert_eq!(rt; whole.section.commands.len(), 14);
     assert_eq!(rt; some.section.commands.first().copied(), Some(STALL_FIRST));
+    assert_eq!(rt; some.section.commands.get(1).copied(), Some(POLL));
+    assert_eq!(rt; some.section.commands.get(9).copied(), Some(NEW_RIGHT));
+    assert_eq!(rt; some.section.commands.last().copied(), Some(RELEASE));
     assert_eq!(rt; some.section.commands.get(1..), rest);
     assert_eq!(rt; none.section.commands.get(0..), rest);
     Ok(())
