@@ -1,6 +1,3 @@
-pub mod UnitLines
-pub mod PlayedSections
-pub mod MergedReplies
 pub mod ToldCodes
 pub mod NoCommands
 pub mod UpdateRefusals
@@ -17,7 +14,6 @@ pub mod GeneratedSound
 pub mod ReadBack
 pub mod LaneVerdicts
 pub mod CallerSums
-pub mod HistoryLengths
 pub mod SoakCounts
 pub mod SectionCursors
 pub mod OnePass

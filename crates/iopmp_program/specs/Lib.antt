@@ -1,8 +1,5 @@
 -- What a call of the program gives: how it is asked, what each command answers, and how it ends.
 pub mod Replays
-pub mod ToldHistories
-pub mod KeptReplies
-pub mod MergedReplies
 pub mod StatusCodes
 pub mod ScriptNumbers
 pub mod CommandWords
@@ -22,7 +19,6 @@ pub mod PlanCommand
 pub mod PlansBeside
 pub mod LiveCommand
 pub mod UpdateScripts
-pub mod PlayedSections
 pub mod GeneratedScripts
 pub mod GenCommand
 pub mod Summaries

@@ -9,7 +9,6 @@ mod edges;
 mod generated;
 mod images;
 mod inputs;
-mod memory;
 mod playing;
 mod program;
 mod refusals;
@@ -19,8 +18,7 @@ mod subcommand;
 #[cfg(test)]
 mod tests;
 
-pub use memory::NoMemory;
-pub use playing::play;
 pub use program::top;
 pub use reports::report;
+pub use script_player::{NoMemory, play};
 pub use status::{Outcome, Status};

@@ -4,26 +4,22 @@ ghost use Rattle.std.specs.List.{AllByRecursion};
 ghost use Rattle.event_words.specs.Valid.{IsValidShape};
 ghost use Rattle.event_words.specs.Runs.{IsEventWord};
 ghost use Rattle.event_words.specs.ReportLines.{event_line};
-ghost use Rattle.unit_core.specs.Reports.{section_lines, unit_lines, report_text};
+ghost use Rattle.unit_core.specs.Reports.{section_lines, report_text};
 ghost use Rattle.iopmp_program.specs.SectionEnds.{cursor_ends, end_lines};
-ghost use Rattle.iopmp_program.specs.ToldHistories.{logged_with, IsToldOf};
+ghost use Rattle.script_player.specs.ToldHistories.{logged_with, IsToldOf};
 ghost use Rattle.iopmp_program.specs.FaultsCommand.{IsFaultsText};
 
 mod cursors;
-mod merged;
 pub mod replay;
-pub mod told;
 mod windows;
 
-use crate::memory::NoMemory;
 use cursors::{note, push_ends};
 use event_words::{Line, Listed, Reply, Section};
 use replay::replay_words;
+use script_player::{NoMemory, Told, replayed};
 use script_reader::Script;
 use section_cursor::{Cursor, section_cursors};
 use std::alloc::{AllocError, Global};
-use told::{Told, replayed};
-use unit_core::Fabric;
 use windows::push_windows;
 
 /// Writes the line of each word's event with its reply, and notes the event.
@@ -91,16 +87,6 @@ fn push_events(
 {
     let mut cursors = section_cursors(alloc, boot, lanes)?;
     push_noted(out, line, cursors.as_mut_slice(), words, replies)?;
-    Ok(())
-}
-
-fn push_units(out: &mut Vec<u8>, line: &mut Line, units: &Fabric) -> Result<(), AllocError>
-    ensures { OnOk result (out.new.items ≡ out.old.items ++ unit_lines 0 units.now.state.units) }
-{
-    for unit in 0..units.units() {
-        line.make_unit(unit, units.error_words(unit));
-        out.extend_from_slice(line.bytes())?;
-    }
     Ok(())
 }
 

@@ -6,7 +6,7 @@ ghost use Rattle.iopmp_program.specs.declared.subcommand.Subcommand.TheVariants 
 
 use crate::answer::{Answer, NoAnswer, text_answer};
 use crate::generated::script::generated_script;
-use crate::memory::NoMemory;
+use script_player::NoMemory;
 use script_reader::print_script;
 use std::alloc::Global;
 

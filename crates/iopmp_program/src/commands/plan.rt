@@ -9,8 +9,8 @@ ghost use Rattle.iopmp_program.specs.CommandTables.{Answers, plan_command};
 
 use crate::answer::{Answer, NoAnswer, text_answer};
 use crate::inputs::update::{Update, WhichPlan, planned, two_policies};
-use crate::memory::NoMemory;
 use event_words::Section;
+use script_player::NoMemory;
 use script_reader::print_lane;
 use std::alloc::{AllocError, Global};
 

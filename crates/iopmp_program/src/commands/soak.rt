@@ -8,9 +8,8 @@ ghost use Rattle.iopmp_program.specs.declared.subcommand.Subcommand.TheVariants 
 use crate::answer::{Answer, NoAnswer, report_answer};
 use crate::generated::script::generated_script;
 use crate::generated::summary::{summary, verdict_codes};
-use crate::memory::NoMemory;
-use crate::playing::{ToldHistory, play_whole};
 use checker_workers::Gate;
+use script_player::{NoMemory, ToldHistory, play_whole};
 use std::alloc::Global;
 use std::thread::Threads;
 

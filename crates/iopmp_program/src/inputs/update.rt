@@ -10,12 +10,12 @@ ghost use Rattle.iopmp_program.specs.AnswerForms.{HasLine, GivesOr};
 
 use super::policies::policy;
 use crate::answer::NoAnswer;
-use crate::memory::NoMemory;
 use crate::refusals::bad_line;
 use crate::refusals::policy_lines::{WhichPolicy, need_line};
 use event_words::Section;
 use narrow_plans::narrow;
 use policy_compiler::Policy;
+use script_player::NoMemory;
 use script_reader::{UpdateText, read_update};
 use std::alloc::Global;
 use std::marker::Model;

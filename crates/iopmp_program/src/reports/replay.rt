@@ -8,8 +8,8 @@ ghost use Rattle.unit_core.specs.Fabrics.{state_after_word, reply_to_word};
 ghost use Rattle.unit_core.specs.Histories.{logged_in, units_after};
 ghost use Rattle.iopmp_program.specs.Replays.{IsReplay};
 
-use crate::memory::NoMemory;
 use event_words::{LoggedEvent, Machine, Shape, unpack};
+use script_player::NoMemory;
 use std::alloc::{AllocError, Global};
 use unit_core::Fabric;
 

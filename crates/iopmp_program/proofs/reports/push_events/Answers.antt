@@ -1,7 +1,7 @@
 use Rattle.std.proofs.Common.{◌++◌, ◌∷◌, flat_map, ap, ◌∙◌}
 use Rattle.event_words.specs.ReportLines.{event_line}
 use Rattle.iopmp_program.specs.SectionEnds.{cursor_ends, end_lines}
-use Rattle.iopmp_program.specs.ToldHistories.{logged_with}
+use Rattle.script_player.specs.ToldHistories.{logged_with}
 use Rattle.iopmp_program.proofs.SectionCursors.{ends_of_fresh, lines_of_ends}
 use Rattle.iopmp_program.proofs.reports.push_events.Goals as goal
 

@@ -1,7 +1,7 @@
 use Rattle.std.proofs.Common.{◌+◌, ◌++◌, ◌∷◌, drop, rules, sym, ap, ◌∙◌, arith}
 use Rattle.event_words.specs.declared.reply.Reply.TheVariants.{Value}
 use Rattle.iopmp_program.specs.SectionEnds.{cursor_ends}
-use Rattle.iopmp_program.specs.ToldHistories.{logged_with}
+use Rattle.script_player.specs.ToldHistories.{logged_with}
 use Rattle.iopmp_program.proofs.OnePass.{with_more, text_more}
 use Rattle.iopmp_program.proofs.reports.push_history.Goals as goal
 

@@ -2,7 +2,7 @@
 use Rattle.std.proofs.Common.{◌≡◌, ◌++◌, length, drop, flat_map}
 use Rattle.event_words.specs.ReportLines.{event_line}
 use Rattle.iopmp_program.specs.SectionEnds.{cursor_ends}
-use Rattle.iopmp_program.specs.ToldHistories.{logged_with}
+use Rattle.script_player.specs.ToldHistories.{logged_with}
 use Rattle.iopmp_program.proofs.reports.push_history.Given as goal
 
 abbrev pub invariant-loop-place : goal.invariant-loop-place

@@ -5,7 +5,7 @@ use Rattle.script_reader.specs.Scripts.{ScriptOf, IsWellFormedScript, need_of}
 use Rattle.unit_core.specs.Histories.{IsLegalHistory, logged_in}
 use Rattle.iopmp_program.specs.GeneratedScripts.{generated_script}
 use Rattle.iopmp_program.specs.Summaries.{summary_text, reply_code, verdict_codes}
-use Rattle.iopmp_program.specs.ToldHistories.{logged_with}
+use Rattle.script_player.specs.ToldHistories.{logged_with}
 use Rattle.iopmp_program.proofs.ToldCodes.{codes_told}
 use Rattle.iopmp_program.proofs.GeneratedSound.{formed, few}
 use Rattle.iopmp_program.specs.SoakCommand.{IsSoaked}

@@ -3,7 +3,7 @@ use Rattle.std.proofs.Common.{sym, subst}
 use Rattle.std.specs.List.{AllByRecursion}
 use Rattle.event_words.specs.Runs.{IsEventWord}
 use Rattle.iopmp_program.specs.FaultsCommand.{IsRunOf}
-use Rattle.iopmp_program.specs.ToldHistories.{IsToldOf}
+use Rattle.script_player.specs.ToldHistories.{IsToldOf}
 use Rattle.iopmp_program.proofs.CommandAnswers.{told}
 use Rattle.iopmp_program.proofs.ToldRuns.{is_run_of}
 use Rattle.iopmp_program.proofs.playing.reported.played.Goals as goal

@@ -1,6 +1,0 @@
--- The copies so far.
-use Rattle.std.proofs.Common.{◌≡◌, take}
-use Rattle.iopmp_program.proofs.playing.players.copy_sections.Given as goal
-
-abbrev pub invariant-loop-section : goal.invariant-loop-section
-invariant-loop-section l = l.copies.items ≡ take l.section-index l.sections
