@@ -12,10 +12,11 @@ use Rattle.iopmp_program.specs.RunCommand.{IsReport, IsRefusal}
 use Rattle.iopmp_program.specs.CompileCommand.{IsCompiled, IsNotCompiled}
 use Rattle.iopmp_program.specs.PlanCommand.{IsPlanned, IsNotPlanned}
 use Rattle.iopmp_program.specs.LiveCommand.{IsLiveReport, IsLiveRefusal}
-use Rattle.iopmp_program.specs.GeneratedScripts.{generated_script}
+use Rattle.script_generator.specs.GeneratedScripts.{generated_script}
 use Rattle.iopmp_program.specs.GenCommand.{generated_text}
-use Rattle.iopmp_program.specs.SoakCommand.{IsSoak, IsSoaked}
-use Rattle.iopmp_program.specs.Summaries.{soak_text}
+use Rattle.iopmp_program.specs.SoakCommand.{IsSoaked}
+use Rattle.script_generator.specs.SoakHistories.{IsSoak}
+use Rattle.script_generator.specs.Summaries.{soak_text}
 use Rattle.iopmp_program.specs.FaultsCommand.{IsFaultsReport}
 use Rattle.audit_reader.specs.declared.answer.Audit.{Audit as Found}
 use Rattle.audit_reader.specs.declared.answer.Audit.TheVariants.{Legal, BadAt}

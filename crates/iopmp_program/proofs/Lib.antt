@@ -7,14 +7,7 @@ pub mod Accepted
 pub mod GivenStatuses
 pub mod Completeness
 pub mod CommandLaws
-pub mod GeneratorDraws
-pub mod GeneratedExamples
-pub mod DeniedLines
-pub mod GeneratedSound
 pub mod ReadBack
-pub mod LaneVerdicts
-pub mod CallerSums
-pub mod SoakCounts
 pub mod SectionCursors
 pub mod OnePass
 pub mod WindowPlaces

@@ -10,10 +10,10 @@ use Rattle.event_words.specs.Registers.{index_count, index_of}
 use Rattle.event_words.specs.declared.register.Register.TheVariants.{Mdstall}
 use Rattle.event_words.specs.Sections.{SectionOf, most_events, most_section_events}
 use Rattle.script_reader.specs.Answers.{reading_of}
-use Rattle.script_reader.specs.Canonical.{IsToldWholly, IsReadableScript, with_lane, text_before_end}
+use Rattle.script_reader.specs.Canonical.{IsReadableScript, with_lane, text_before_end}
 use Rattle.script_reader.specs.Printed.{script_text, lane_text}
 use Rattle.script_reader.specs.Scripts.{IsWellFormedScript}
-use Rattle.script_reader.specs.Told.{IsToldWhole, TellsWhole}
+use Rattle.script_reader.specs.Told.{IsToldWhole}
 use Rattle.script_reader.proofs.WrittenScripts.{script_reads_back, lane_reads_back}
 use Rattle.policy_compiler.specs.declared.image.RegPair.{RegPair}
 use Rattle.policy_compiler.specs.Policies.{PolicyOf, IsPolicy}
@@ -23,8 +23,6 @@ use Rattle.policy_compiler.specs.Commands.{write_command, image_section}
 use Rattle.policy_compiler.proofs.ImageSections.{few_writes, image_is_valid, image_names_unit_0}
 use Rattle.update_planner.specs.Plans.{is_rewritten, rewrite, rewrites, plan_commands}
 use Rattle.iopmp_program.specs.CompileCommand.{image_script}
-use Rattle.iopmp_program.specs.GeneratedScripts.{boot_writes, generated_script}
-use Rattle.iopmp_program.specs.GenCommand.{generated_text}
 use Rattle.iopmp_program.specs.UpdateInputs.{UpdateOf, IsReadable}
 use Rattle.iopmp_program.specs.declared.inputs.update.WhichPlan.{WhichPlan}
 use Rattle.iopmp_program.specs.declared.inputs.update.WhichPlan.TheVariants.{Whole, Narrow}
@@ -33,7 +31,6 @@ use Rattle.iopmp_program.specs.PlanCommand.{old_script, Plans}
 use Rattle.iopmp_program.specs.PlansBeside.{IsPlayablePlan}
 use Rattle.narrow_plans.specs.Unaffected.{is_affected, affected}
 use Rattle.narrow_plans.specs.NarrowPlans.{stall_command, narrow_commands}
-use Rattle.iopmp_program.proofs.GeneratedSound.{each_lane, generated_told, formed, few}
 use Rattle.iopmp_program.proofs.ScriptsBeside as beside
 
 -- ---- writes
@@ -71,17 +68,6 @@ image_read_back policy text good fits printed =
       few = let few = image_events policy good fits in omega (arith, few);
       whole = record { boot = writes_told (image_of policy).writes; lanes = tt };
     })
-
--- ---- a generated script
-
-generated_whole : (number : ℕ) → IsToldWholly (generated_script number)
-unfolding generated_script
-generated_whole number = record { boot = writes_told boot_writes; lanes = each_lane TellsWhole number 0 8 (generated_told number) }
-
-pub generated_read_back : (number : ℕ) (text : List ℕ) → text ≡ generated_text number → reading_of text ≡ Ok (generated_script number)
-unfolding generated_text
-generated_read_back number text printed =
-    ap reading_of printed ∙ script_reads_back (generated_script number) (record { formed = formed number; few = few number; whole = generated_whole number })
 
 -- ---- a plan
 

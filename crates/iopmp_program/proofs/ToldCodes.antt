@@ -5,7 +5,7 @@ use Rattle.std.specs.List.{AllByRecursion, cons_option}
 use Rattle.event_words.specs.declared.reply.Reply.{Reply}
 use Rattle.event_words.specs.Runs.{IsEventWord, logged_first}
 use Rattle.event_words.proofs.EventWords.{word_event}
-use Rattle.iopmp_program.specs.Summaries.{reply_code, verdict_codes}
+use Rattle.script_generator.specs.Summaries.{reply_code, verdict_codes}
 use Rattle.script_player.specs.ToldHistories.{logged_with}
 
 pub codes_told : (k : ℕ) (ws : List ℕ) (rs : List Reply) → AllByRecursion IsEventWord ws → length rs ≡ length ws → filter_map reply_code rs ≡ verdict_codes (logged_with k ws rs)

@@ -2,7 +2,7 @@
 use Rattle.std.specs.Prelude.{◌≡◌, ℕ, List, Ok}
 use Rattle.script_reader.specs.Answers.{reading_of}
 use Rattle.script_reader.specs.Printed.{script_text}
-use Rattle.iopmp_program.specs.GeneratedScripts.{generated_script}
+use Rattle.script_generator.specs.GeneratedScripts.{generated_script}
 
 -- the printed script of a number
 unfoldable pub generated_text : ℕ → List ℕ

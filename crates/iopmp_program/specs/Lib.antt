@@ -1,7 +1,6 @@
 -- What a call of the program gives: how it is asked, what each command answers, and how it ends.
 pub mod Replays
 pub mod StatusCodes
-pub mod ScriptNumbers
 pub mod CommandWords
 pub mod FaultLines
 pub mod AnswerForms
@@ -19,9 +18,7 @@ pub mod PlanCommand
 pub mod PlansBeside
 pub mod LiveCommand
 pub mod UpdateScripts
-pub mod GeneratedScripts
 pub mod GenCommand
-pub mod Summaries
 pub mod SoakCommand
 pub mod AuditCommand
 pub mod CommandTables

@@ -1,22 +1,9 @@
 -- What `soak` answers.
-use Rattle.std.specs.Prelude.{◌≡◌, ℕ, List, length}
-use Rattle.script_reader.specs.Scripts.{ScriptOf}
-use Rattle.unit_core.specs.Histories.{IsLegalHistory, logged_in}
-use Rattle.iopmp_program.specs.GeneratedScripts.{generated_script}
-use Rattle.iopmp_program.specs.Summaries.{summary_text, verdict_codes, soak_text}
+use Rattle.std.specs.Prelude.{◌≡◌, ℕ, List}
+use Rattle.script_generator.specs.Summaries.{soak_text}
+use Rattle.script_generator.specs.SoakHistories.{IsSoak}
 
--- The history is legal for the script and has a verdict for each of its 32768 transactions, and the summary
--- of its verdicts is the one that the tables after the boot section give.
-pub record IsSoakOf (number : ℕ) (script : ScriptOf) (history : List ℕ) : Type 0 where
-  pub legal : IsLegalHistory script.shapes script.boot script.lanes history
-  pub all : length (verdict_codes (logged_in script.shapes history)) ≡ 32768
-  pub counted : soak_text number ≡ summary_text number (verdict_codes (logged_in script.shapes history))
-
--- so for the generated script of the number
-abbrev pub IsSoak : ℕ → List ℕ → Type 0
-IsSoak number history = IsSoakOf number (generated_script number) history
-
--- such a history and the summary, which is the same at each run
+-- a history of the generated script and the summary, which is the same at each run
 pub record IsSoaked (number : ℕ) (history text : List ℕ) : Type 0 where
   pub soak : IsSoak number history
   pub printed : text ≡ soak_text number

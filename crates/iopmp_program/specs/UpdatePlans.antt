@@ -1,5 +1,4 @@
 -- The two plans of an update: their commands, and what is said of a history in which they are played.
-use Rattle.std.specs.Prelude.{ℕ}
 use Rattle.event_words.specs.Sections.{SectionOf}
 use Rattle.unit_core.specs.Histories.{History}
 use Rattle.policy_compiler.specs.Policies.{PolicyOf}

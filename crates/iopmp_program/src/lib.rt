@@ -6,7 +6,6 @@
 mod answer;
 mod commands;
 mod edges;
-mod generated;
 mod images;
 mod inputs;
 mod playing;

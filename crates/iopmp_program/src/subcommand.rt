@@ -4,7 +4,7 @@ ghost use Rattle.std.specs.String.{string_bytes};
 ghost use Rattle.iopmp_program.specs.CommandWords.{numbered, two_words, command_of};
 ghost use Rattle.iopmp_program.specs.CommandTables.{reads};
 
-use crate::generated::script_number::script_number;
+use script_generator::script_number;
 
 /// What the program is asked to do.
 #[derive(Clone, Copy, Debug, PartialEq, Eq)]

@@ -5,13 +5,13 @@ ghost use Rattle.iopmp_program.specs.CommandTables.{Answers};
 ghost use Rattle.iopmp_program.specs.declared.subcommand.Subcommand.TheVariants as commands;
 
 use crate::answer::{Answer, NoAnswer, text_answer};
-use crate::generated::script::generated_script;
+use script_generator::generated_script;
 use script_player::NoMemory;
 use script_reader::print_script;
 use std::alloc::Global;
 
 /// The printed script of a number.
-#[tactic(auto, unfolding(crate::specs::GenCommand::generated_text), using(crate::proofs::ReadBack::generated_read_back))]
+#[tactic(auto, unfolding(crate::specs::GenCommand::generated_text))]
 fn generated_text(alloc: Global, number: u32) -> Result<Vec<u8>, NoMemory>
     ensures { IfOk result (λ text. IsGenerated number text.items) }
 {

@@ -6,9 +6,8 @@ ghost use Rattle.iopmp_program.specs.CommandTables.{Answers};
 ghost use Rattle.iopmp_program.specs.declared.subcommand.Subcommand.TheVariants as commands;
 
 use crate::answer::{Answer, NoAnswer, report_answer};
-use crate::generated::script::generated_script;
-use crate::generated::summary::{summary, verdict_codes};
 use checker_workers::Gate;
+use script_generator::{generated_script, law_soak, summary, verdict_codes};
 use script_player::{NoMemory, ToldHistory, play_whole};
 use std::alloc::Global;
 use std::thread::Threads;
@@ -22,6 +21,7 @@ fn soaked<R: Threads + Sync, G: Gate + Sync>(
 ) -> Result<Answer, NoMemory>
     ensures { IfOk result (λ a. ReportOf (IsSoaked number) a.status a.history a.text.items) }
 {
+    law_soak();
     let script = generated_script(alloc, number)?;
     let ToldHistory { history, told } = play_whole(rt, alloc, script, gate)?;
     let codes = verdict_codes(alloc, &told.replies)?;

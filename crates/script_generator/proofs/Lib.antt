@@ -1,0 +1,7 @@
+pub mod GeneratorDraws
+pub mod GeneratedExamples
+pub mod DeniedLines
+pub mod GeneratedSound
+pub mod LaneVerdicts
+pub mod CallerSums
+pub mod SoakCounts
