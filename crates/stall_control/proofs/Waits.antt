@@ -175,14 +175,18 @@ few_busy n w flags counts h l e =
     let a = length-take-le n flags (omega arith) in
     let b = busy_small (take n flags) counts in omega arith
 
-pub count_facts : (n r k w : ℕ) (flags : List Bool) (counts new rest : List ℕ) (was now : Bool) → n ≤ 64 → length flags ≡ 64 → length counts ≡ 64 → n ≡ length new
-    → w ≡ busy_count (take n flags) (take n counts) → was ≡ is_busy_at (take n flags) (take n counts) r → now ≡ is_busy_at (take n flags) (take n (new ++ rest)) r → new ≡ set (take n counts) r k
+-- the same for a count, by what is told of the requester's flag
+pub count_facts : (n r k w : ℕ) (flags : List Bool) (counts new : List ℕ) (stalled was now : Bool) → n ≤ 64 → length flags ≡ 64 → length counts ≡ 64 → n ≡ length new → w ≡ busy_count (take n flags) (take n counts)
+    → stalled ≡ flag_of (take n flags) r → was ≡ (stalled && not (count_in (take n counts) r == 0)) → now ≡ (stalled && not (count_in new r == 0)) → new ≡ set (take n counts) r k
     → IsOneChanged n w was now new (busy_count (take n flags))
-count_facts n r k w flags counts new rest was now h fl cl nl e1 e2 e3 e4 =
+count_facts n r k w flags counts new stalled was now h fl cl nl e1 f e2 e3 e4 =
     let a = length-take-le n flags (omega arith) in
     let b = length-take-le n counts (omega arith) in
-    one_changed n w was now new rest (busy_count (take n flags)) nl (few_busy n w flags (take n counts) h fl e1)
-    (rw (e1, e2, e3) (count_put (take n flags) (take n counts) (take n (new ++ rest)) r k (omega arith) (taken n new rest nl ∙ e4)))
+    let t : take n (new ++ []) ≡ new = taken n new [] nl in
+    let x : was ≡ is_busy_at (take n flags) (take n counts) r = e2 ∙ ap (λ g. g && not (count_in (take n counts) r == 0)) f in
+    let y : now ≡ is_busy_at (take n flags) (take n (new ++ [])) r = e3 ∙ ap (λ g. g && not (count_in new r == 0)) f ∙ ap (λ l. is_busy_at (take n flags) l r) (sym t) in
+    one_changed n w was now new [] (busy_count (take n flags)) nl (few_busy n w flags (take n counts) h fl e1)
+    (rw (e1, x, y) (count_put (take n flags) (take n counts) (take n (new ++ [])) r k (omega arith) (t ∙ e4)))
 
 pub flag_facts : (n value w : ℕ) (flags new rest : List Bool) (counts : List ℕ) (was now : Bool) → n ≤ 64 → length flags ≡ 64 → n ≡ length new
     → w ≡ busy_count (take n flags) counts → was ≡ is_busy_at (take n flags) counts (value % 2 ^ 16) → now ≡ is_busy_at (take n (new ++ rest)) counts (value % 2 ^ 16) → new ≡ flags_after_rridscp (take n flags) value

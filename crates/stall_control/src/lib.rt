@@ -3,7 +3,7 @@
 //! The flags are computed at a write of MDSTALL or RRIDSCP, and follow no later write of the tables.
 #![tactic(auto)]
 
-ghost use Rattle.std.specs.Prelude.{◌≡◌, ◌==◌, ◌&&◌, ℕ, Bool, false, not, ◌+◌, ◌-◌, ◌*◌, ◌^◌, ◌<◌, ◌≤◌, List, length, map, replicate, take, slice_index, slice_set};
+ghost use Rattle.std.specs.Prelude.{◌≡◌, ◌==◌, ◌&&◌, ℕ, Bool, true, false, not, ◌+◌, ◌-◌, ◌*◌, ◌^◌, ◌<◌, ◌≤◌, List, length, map, replicate, take, slice_index, slice_set};
 ghost use Rattle.std.specs.List.{range_with_len, list_any};
 ghost use Rattle.event_words.specs.Registers.{has_bit};
 ghost use Rattle.event_words.specs.Domains.{is_associated};
@@ -96,24 +96,42 @@ fn set_flag(flags: &mut [bool], value: u32)
     }
 }
 
-/// One more for a known requester.
-fn more_at(counts: &mut [u32], rrid: u8)
-    requires { count_in counts.old rrid < 1048576 }
-    ensures { counts.new ≡ more_at counts.old rrid }
+/// One more for a known requester, which may be stalled. Answers whether it was so with something in flight, and
+/// whether it is.
+#[inline(always)]
+fn more_at(counts: &mut [u32], rrid: u8, stalled: bool) -> (bool, bool)
+    requires known { stalled ≡ true → rrid < length counts.old }
+    requires few { count_in counts.old rrid < 1048576 }
+    ensures counts { counts.new ≡ more_at counts.old rrid }
+    ensures was { result.0 ≡ (stalled && not (count_in counts.old rrid == 0)) }
+    ensures now { result.1 ≡ (stalled && not (count_in counts.new rrid == 0)) }
 {
-    if (rrid as usize) < counts.len() {
-        counts[rrid as usize] += 1;
+    let at = rrid as usize;
+    if at >= counts.len() {
+        return (false, false);
     }
+    let count = counts[at];
+    counts[at] = count + 1;
+    (stalled && count != 0, stalled)
 }
 
-/// One fewer for a known requester.
-fn less_at(counts: &mut [u32], rrid: u8)
-    requires { rrid < length counts.old → 0 < count_in counts.old rrid }
-    ensures { counts.new ≡ less_at counts.old rrid }
+/// One fewer for a known requester, which may be stalled. Answers whether it was so with something in flight, and
+/// whether it is.
+#[inline(always)]
+fn less_at(counts: &mut [u32], rrid: u8, stalled: bool) -> (bool, bool)
+    requires known { stalled ≡ true → rrid < length counts.old }
+    requires some { rrid < length counts.old → 0 < count_in counts.old rrid }
+    ensures counts { counts.new ≡ less_at counts.old rrid }
+    ensures was { result.0 ≡ (stalled && not (count_in counts.old rrid == 0)) }
+    ensures now { result.1 ≡ (stalled && not (count_in counts.new rrid == 0)) }
 {
-    if (rrid as usize) < counts.len() {
-        counts[rrid as usize] -= 1;
+    let at = rrid as usize;
+    if at >= counts.len() {
+        return (false, false);
     }
+    let count = counts[at];
+    counts[at] = count - 1;
+    (stalled, stalled && count != 1)
 }
 
 /// Whether the requester is stalled and has a transaction in flight.
@@ -125,6 +143,7 @@ fn is_busy_at(flags: &[bool], counts: &[u32], rrid: usize) -> bool
 }
 
 /// The number where one requester may have changed.
+#[inline(always)]
 fn changed(draining: u8, was: bool, now: bool) -> u8
     requires few { draining ≤ 64 }
     requires some { one was ≤ draining + one now }
@@ -190,6 +209,7 @@ impl StallState {
     }
 
     /// Whether the requester is stalled. One that isn't known never is.
+    #[inline]
     pub fn stalled(&self, rrid: u8) -> bool
         ensures { result ≡ flag_of self.now.flags rrid }
     {
@@ -198,29 +218,29 @@ impl StallState {
 
     /// One more transaction of the requester is in flight, of which fewer than 1048576 were. Of a
     /// requester that isn't known nothing is counted. All else stays.
+    #[inline]
     pub fn enter(&mut self, rrid: u8)
         requires { count_in self.old.counts rrid < 1048576 }
         ensures flags { self.new.flags ≡ self.old.flags }
         ensures counts { self.new.counts ≡ more_at self.old.counts rrid }
     {
         let rrids = self.rrids as usize;
-        let was = is_busy_at(&self.flags[..rrids], &self.counts[..rrids], rrid as usize);
-        more_at(&mut self.counts[..rrids], rrid);
-        let now = is_busy_at(&self.flags[..rrids], &self.counts[..rrids], rrid as usize);
+        let stalled = self.stalled(rrid);
+        let (was, now) = more_at(&mut self.counts[..rrids], rrid, stalled);
         self.draining = changed(self.draining, was, now);
     }
 
     /// One fewer is, of which some were. Of a requester that isn't known nothing is counted. All else
     /// stays.
+    #[inline]
     pub fn leave(&mut self, rrid: u8)
         requires { rrid < length self.old.counts → 0 < count_in self.old.counts rrid }
         ensures flags { self.new.flags ≡ self.old.flags }
         ensures counts { self.new.counts ≡ less_at self.old.counts rrid }
     {
         let rrids = self.rrids as usize;
-        let was = is_busy_at(&self.flags[..rrids], &self.counts[..rrids], rrid as usize);
-        less_at(&mut self.counts[..rrids], rrid);
-        let now = is_busy_at(&self.flags[..rrids], &self.counts[..rrids], rrid as usize);
+        let stalled = self.stalled(rrid);
+        let (was, now) = less_at(&mut self.counts[..rrids], rrid, stalled);
         self.draining = changed(self.draining, was, now);
     }
 
