@@ -4,7 +4,7 @@ use Rattle.std.specs.Prelude.{IfSome, Option}
 use Rattle.std.specs.List.{AllByRecursion}
 use Rattle.event_words.specs.declared.access.Access.{Access}
 use Rattle.event_words.specs.Valid.{IsValidAccess}
-use Rattle.unit_core.specs.declared.places.Kept.{Kept}
+use Rattle.unit_core.specs.declared.kept.Kept.{Kept}
 use Rattle.unit_core.specs.Submissions.{SubmittedAccess}
 use Rattle.unit_core.specs.Places.{submission_in, IsKept, nothing_kept}
 use Rattle.unit_core.proofs.SubmissionLists.{submission}

@@ -15,7 +15,7 @@ use Rattle.stall_queue.specs.Queues.{is_of}
 use Rattle.std.proofs.lemmas.List.FromFn.{length-map-range_with_len}
 use Rattle.unit_core.specs.declared.Submission.{Submission}
 use Rattle.unit_core.specs.declared.parts.IopmpUnit.{IopmpUnit}
-use Rattle.unit_core.specs.declared.places.Kept.{Kept}
+use Rattle.unit_core.specs.declared.kept.Kept.{Kept}
 use Rattle.unit_core.specs.Submissions.{released_item}
 use Rattle.unit_core.specs.Places.{IsHeldBack}
 use Rattle.unit_core.specs.Units.{read_value, after_write}

@@ -10,7 +10,7 @@ use Rattle.event_words.specs.declared.reply.Verdict.{Verdict}
 use Rattle.event_words.specs.declared.reply.Verdict.TheVariants as verdicts
 use Rattle.event_words.specs.declared.reply.Reply.{Reply}
 use Rattle.event_words.specs.declared.reply.Reply.TheVariants as replies
-use Rattle.event_words.specs.declared.register.Register.TheVariants.{Mdstall, Rridscp, ErrCfg}
+use Rattle.event_words.specs.declared.register.Register.TheVariants.{Mdstall, Rridscp, ErrCfg, ErrInfo}
 use Rattle.event_words.specs.Registers.{written, index_of, word_at, has_bit, count_of_bool}
 use Rattle.event_words.specs.Guards.{guarded_bits, reg}
 use Rattle.event_words.specs.Denials.{denial, recorded}
@@ -76,6 +76,10 @@ part_submit p x a =
     else (if has_bit (reg x.regs ErrCfg) 3
     then (record x { regs = recorded x.regs a (part_stall_denial x) }, replies.Stalled (part_stall_denial x))
     else (x, replies.Busy)))
+
+-- The error record is taken.
+abbrev pub is_recorded : IopmpUnit → Bool
+is_recorded x = has_bit (reg x.regs ErrInfo) 0
 
 abbrev pub part_verdict : IopmpUnit → Access → Decision → IopmpUnit × Verdict
 part_verdict x a decisions.Allowed =

@@ -8,9 +8,12 @@ ghost use Rattle.event_words.specs.Valid.{IsValidAccess, IsValidEvent};
 ghost use Rattle.unit_core.specs.Units.{event_step, taken_step, submission_of, wide_access, aims_after};
 ghost use Rattle.unit_core.specs.Parts.{CanWrite};
 ghost use Rattle.unit_core.specs.Places.{IsKept, AllAgree, IsTaken, MayStep, states_of};
+ghost use Rattle.unit_core.specs.KeptWords.{HasRoom, KeepsRoom, IsWordOf};
+ghost use Rattle.unit_core.specs.declared.kept.Kept.{Kept};
 
+use crate::kept::KeptEvents;
 use crate::parts::{IopmpUnit, read, write};
-use crate::places::{Kept, judge_at, submit_at};
+use crate::places::{judge_at, judge_unasked, submit_at};
 use event_words::{Access, Event, Kind, Reply};
 
 /// A register write, which is answered with what the register reads then.
@@ -51,27 +54,31 @@ pub fn read_on(units: &[IopmpUnit], unit: u8, index: u32) -> Reply
     }
 }
 
-/// A submission of an access.
+/// A submission of an access, which is kept by this word of a Submit, or else as a wide one.
 #[inline(always)]
 pub fn submit_on(
     units: &mut [IopmpUnit],
-    kept: &mut [Kept],
+    kept: &mut KeptEvents,
     place: u32,
+    word: Option<u64>,
     unit: u8,
     caller: u8,
     access: &Access,
 ) -> Reply
-    requires ready { MayStep place units.old kept.old }
+    requires ready { MayStep place units.old kept.old.items }
+    requires room { HasRoom place kept.old }
     requires access { IsValidAccess access.now }
-    ensures all_valid { AllByRecursion IsKept kept.new }
+    requires word { IfSome word (IsWordOf unit caller access.now) }
+    ensures keeps { KeepsRoom 1 kept.old kept.new }
+    ensures all_valid { AllByRecursion IsKept kept.new.items }
     ensures taken { IsTaken place
-        (Submit unit caller access.now) units.old units.new kept.old kept.new }
+        (Submit unit caller access.now) units.old units.new kept.old.items kept.new.items }
     ensures reply { result ≡ (taken_step place
-        (states_of 0 units.old kept.old) (Some (Submit unit caller access.now))).1 }
+        (states_of 0 units.old kept.old.items) (Some (Submit unit caller access.now))).1 }
 {
     let at = unit as usize;
     if at < units.len() {
-        submit_at(&mut units[at], unit, kept, place, caller, access)
+        submit_at(&mut units[at], unit, kept, place, word, caller, access)
     } else {
         Reply::NoSuch
     }
@@ -103,25 +110,47 @@ fn wide_access(aims: &[u64], caller: u8, rrid: u8, kind: Kind, len: u16) -> Opti
 #[inline(always)]
 pub fn judge_on(
     units: &mut [IopmpUnit],
-    kept: &mut [Kept],
+    kept: &mut KeptEvents,
     unit: u8,
     caller: u8,
     judged: u32,
-    asked: bool,
 ) -> Reply
-    requires agrees { AllAgree 0 units.old kept.old }
-    requires all_valid { AllByRecursion IsKept kept.old }
-    ensures all_valid { AllByRecursion IsKept kept.new }
-    ensures taken { (place : ℕ) →
-        IsTaken place (Judge unit caller judged) units.old units.new kept.old kept.new }
-    ensures reply { asked ≡ true → (place : ℕ) → result ≡ (taken_step place
-        (states_of 0 units.old kept.old) (Some (Judge unit caller judged))).1 }
+    requires agrees { AllAgree 0 units.old kept.old.items }
+    requires all_valid { AllByRecursion IsKept kept.old.items }
+    ensures keeps { KeepsRoom 0 kept.old kept.new }
+    ensures all_valid { AllByRecursion IsKept kept.new.items }
+    ensures taken { (place : ℕ) → IsTaken place (Judge unit caller judged)
+        units.old units.new kept.old.items kept.new.items }
+    ensures reply { (place : ℕ) → result ≡ (taken_step place
+        (states_of 0 units.old kept.old.items) (Some (Judge unit caller judged))).1 }
 {
     let at = unit as usize;
     if at < units.len() {
-        judge_at(&mut units[at], unit, kept, caller, judged, asked)
+        judge_at(&mut units[at], unit, kept, caller, judged)
     } else {
         Reply::NoSuch
+    }
+}
+
+/// The same where no one asks for the reply.
+#[inline(always)]
+pub fn judge_unasked_on(
+    units: &mut [IopmpUnit],
+    kept: &mut KeptEvents,
+    unit: u8,
+    caller: u8,
+    judged: u32,
+)
+    requires agrees { AllAgree 0 units.old kept.old.items }
+    requires all_valid { AllByRecursion IsKept kept.old.items }
+    ensures keeps { KeepsRoom 0 kept.old kept.new }
+    ensures all_valid { AllByRecursion IsKept kept.new.items }
+    ensures taken { (place : ℕ) → IsTaken place (Judge unit caller judged)
+        units.old units.new kept.old.items kept.new.items }
+{
+    let at = unit as usize;
+    if at < units.len() {
+        judge_unasked(&mut units[at], unit, kept, caller, judged);
     }
 }
 
@@ -130,20 +159,22 @@ pub fn judge_on(
 pub fn step(
     units: &mut [IopmpUnit],
     aims: &mut [u64],
-    kept: &mut [Kept],
+    kept: &mut KeptEvents,
     place: u32,
     event: Event,
     asked: bool,
 ) -> Reply
-    requires ready { MayStep place units.old kept.old }
+    requires ready { MayStep place units.old kept.old.items }
+    requires room { HasRoom place kept.old }
     requires valid { IsValidEvent event }
     requires callers { length aims.old ≡ 32 }
-    ensures agrees { AllAgree 0 units.new kept.new }
-    ensures all_valid { AllByRecursion IsKept kept.new }
-    ensures state { states_of 0 units.new kept.new
-        ≡ (event_step place aims.old (states_of 0 units.old kept.old) event).0 }
+    ensures keeps { KeepsRoom 1 kept.old kept.new }
+    ensures agrees { AllAgree 0 units.new kept.new.items }
+    ensures all_valid { AllByRecursion IsKept kept.new.items }
+    ensures state { states_of 0 units.new kept.new.items
+        ≡ (event_step place aims.old (states_of 0 units.old kept.old.items) event).0 }
     ensures reply { asked ≡ true →
-        result ≡ (event_step place aims.old (states_of 0 units.old kept.old) event).1 }
+        result ≡ (event_step place aims.old (states_of 0 units.old kept.old.items) event).1 }
     ensures aims { aims.new ≡ aims_after aims.old event }
 {
     match event {
@@ -158,12 +189,12 @@ pub fn step(
             unit,
             caller,
             access,
-        } => submit_on(units, kept, place, unit, caller, &access),
+        } => submit_on(units, kept, place, None, unit, caller, &access),
         Event::Judge {
             unit,
             caller,
             place: judged,
-        } => judge_on(units, kept, unit, caller, judged, asked),
+        } => judge_on(units, kept, unit, caller, judged),
         Event::Wide {
             unit,
             caller,
@@ -171,7 +202,7 @@ pub fn step(
             kind,
             len,
         } => match wide_access(aims, caller, rrid, kind, len) {
-            Some(access) => submit_on(units, kept, place, unit, caller, &access),
+            Some(access) => submit_on(units, kept, place, None, unit, caller, &access),
             None => Reply::NoSuch,
         },
         Event::Aim { caller, addr } => {

@@ -5,10 +5,12 @@ ghost use Rattle.std.specs.Prelude.{◌≡◌, ℕ, ◌/◌, ◌^◌, true, List
 ghost use Rattle.unit_core.specs.Units.{word_step};
 ghost use Rattle.unit_core.specs.Parts.{CanWrite};
 ghost use Rattle.unit_core.specs.Places.{IsKept, AllAgree, IsWordTaken, MayStep, states_of};
+ghost use Rattle.unit_core.specs.KeptWords.{HasRoom, KeepsRoom};
+ghost use Rattle.unit_core.specs.declared.kept.Kept.{Kept};
 
-use crate::kinds::{judge_on, read_on, step, submit_on, write_on};
+use crate::kept::KeptEvents;
+use crate::kinds::{judge_on, judge_unasked_on, read_on, step, submit_on, write_on};
 use crate::parts::IopmpUnit;
-use crate::places::Kept;
 use event_words::{
     Event, JUDGE_KIND, Reply, SUBMIT_KIND, WRITE_KIND, unpack, unpack_judge, unpack_submit,
     unpack_write,
@@ -51,34 +53,62 @@ fn read_word(units: &[IopmpUnit], word: u64, asked: bool) -> Reply
 
 /// A word of the kind of a Submit.
 #[inline(never)]
-fn submit_word(units: &mut [IopmpUnit], kept: &mut [Kept], place: u32, word: u64) -> Reply
-    requires ready { MayStep place units.old kept.old }
+fn submit_word(units: &mut [IopmpUnit], kept: &mut KeptEvents, place: u32, word: u64) -> Reply
+    requires ready { MayStep place units.old kept.old.items }
+    requires room { HasRoom place kept.old }
     requires kind { word / 2 ^ 61 ≡ 3 }
+    ensures keeps { KeepsRoom 1 kept.old kept.new }
     ensures taken { (aims : List ℕ) →
-        IsWordTaken place word units.old units.new aims aims kept.old kept.new }
+        IsWordTaken place word units.old units.new aims aims kept.old.items kept.new.items }
     ensures reply { (aims : List ℕ) → result ≡ (word_step place
-        (record { units = states_of 0 units.old kept.old; aims = aims }) word).1 }
+        (record { units = states_of 0 units.old kept.old.items; aims = aims }) word).1 }
 {
     match unpack_submit(word) {
         None => Reply::NoSuch,
-        Some(said) => submit_on(units, kept, place, said.unit, said.caller, &said.access),
+        Some(said) => {
+            submit_on(
+                units,
+                kept,
+                place,
+                Some(word),
+                said.unit,
+                said.caller,
+                &said.access,
+            )
+        }
     }
 }
 
 /// A word of the kind of a Judge.
 #[inline(never)]
-fn judge_word(units: &mut [IopmpUnit], kept: &mut [Kept], word: u64, asked: bool) -> Reply
-    requires agrees { AllAgree 0 units.old kept.old }
-    requires all_valid { AllByRecursion IsKept kept.old }
+fn judge_word(units: &mut [IopmpUnit], kept: &mut KeptEvents, word: u64) -> Reply
+    requires agrees { AllAgree 0 units.old kept.old.items }
+    requires all_valid { AllByRecursion IsKept kept.old.items }
     requires kind { word / 2 ^ 61 ≡ 4 }
-    ensures taken { (place : ℕ) (aims : List ℕ) →
-        IsWordTaken place word units.old units.new aims aims kept.old kept.new }
-    ensures reply { asked ≡ true → (place : ℕ) (aims : List ℕ) → result ≡ (word_step place
-        (record { units = states_of 0 units.old kept.old; aims = aims }) word).1 }
+    ensures keeps { KeepsRoom 0 kept.old kept.new }
+    ensures taken { (place : ℕ) (aims : List ℕ) → IsWordTaken place word
+        units.old units.new aims aims kept.old.items kept.new.items }
+    ensures reply { (place : ℕ) (aims : List ℕ) → result ≡ (word_step place
+        (record { units = states_of 0 units.old kept.old.items; aims = aims }) word).1 }
 {
     match unpack_judge(word) {
         None => Reply::NoSuch,
-        Some(said) => judge_on(units, kept, said.unit, said.caller, said.place, asked),
+        Some(said) => judge_on(units, kept, said.unit, said.caller, said.place),
+    }
+}
+
+/// A word of the kind of a Judge, to which no one asks for the reply.
+#[inline(never)]
+fn judge_unasked_word(units: &mut [IopmpUnit], kept: &mut KeptEvents, word: u64)
+    requires agrees { AllAgree 0 units.old kept.old.items }
+    requires all_valid { AllByRecursion IsKept kept.old.items }
+    requires kind { word / 2 ^ 61 ≡ 4 }
+    ensures keeps { KeepsRoom 0 kept.old kept.new }
+    ensures taken { (place : ℕ) (aims : List ℕ) → IsWordTaken place word
+        units.old units.new aims aims kept.old.items kept.new.items }
+{
+    if let Some(said) = unpack_judge(word) {
+        judge_unasked_on(units, kept, said.unit, said.caller, said.place);
     }
 }
 
@@ -89,14 +119,17 @@ fn any_word(
     word: u64,
     units: &mut [IopmpUnit],
     aims: &mut [u64],
-    kept: &mut [Kept],
+    kept: &mut KeptEvents,
     asked: bool,
 ) -> Reply
-    requires { MayStep place units.old kept.old × (length aims.old ≡ 32) }
+    requires ready { MayStep place units.old kept.old.items }
+    requires room { HasRoom place kept.old }
+    requires callers { length aims.old ≡ 32 }
+    ensures keeps { KeepsRoom 1 kept.old kept.new }
     ensures taken { IsWordTaken place word
-        units.old units.new aims.old aims.new kept.old kept.new }
+        units.old units.new aims.old aims.new kept.old.items kept.new.items }
     ensures reply { asked ≡ true → result ≡ (word_step place
-        (record { units = states_of 0 units.old kept.old; aims = aims.old }) word).1 }
+        (record { units = states_of 0 units.old kept.old.items; aims = aims.old }) word).1 }
 {
     match unpack(word) {
         None => Reply::NoSuch,
@@ -109,22 +142,30 @@ fn any_word(
 pub fn step_word(
     units: &mut [IopmpUnit],
     aims: &mut [u64],
-    kept: &mut [Kept],
+    kept: &mut KeptEvents,
     place: u32,
     word: u64,
     asked: bool,
 ) -> Reply
-    requires ready { MayStep place units.old kept.old }
+    requires ready { MayStep place units.old kept.old.items }
+    requires room { HasRoom place kept.old }
     requires callers { length aims.old ≡ 32 }
+    ensures keeps { KeepsRoom 1 kept.old kept.new }
     ensures taken { IsWordTaken place word
-        units.old units.new aims.old aims.new kept.old kept.new }
+        units.old units.new aims.old aims.new kept.old.items kept.new.items }
     ensures reply { asked ≡ true → result ≡ (word_step place
-        (record { units = states_of 0 units.old kept.old; aims = aims.old }) word).1 }
+        (record { units = states_of 0 units.old kept.old.items; aims = aims.old }) word).1 }
 {
     match word >> 61 {
         WRITE_KIND => write_word(units, word, asked),
         SUBMIT_KIND => submit_word(units, kept, place, word),
-        JUDGE_KIND => judge_word(units, kept, word, asked),
+        JUDGE_KIND => {
+            if asked {
+                return judge_word(units, kept, word);
+            }
+            judge_unasked_word(units, kept, word);
+            Reply::NoSuch
+        }
         READ_KIND => read_word(units, word, asked),
         _ => any_word(place, word, units, aims, kept, asked),
     }

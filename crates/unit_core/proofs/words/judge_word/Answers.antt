@@ -1,4 +1,4 @@
-use Rattle.std.proofs.Common.{◌≡◌, ℕ, Some, sym, ap, ◌∙◌}
+use Rattle.std.proofs.Common.{◌≡◌, Some, sym, ap, ◌∙◌}
 use Rattle.std.specs.Prelude.{List, Option}
 use Rattle.event_words.specs.declared.event.Event.{Event}
 use Rattle.event_words.specs.declared.event.Event.TheVariants.{Judge}
@@ -16,6 +16,6 @@ returns-in-Some-clause-taken c = λ p aims.
       agrees = t.agrees;
       all_valid = c.judge_on.ensures.all_valid;
       state =
-          ap (λ (o : Option Event). (decoded_step p (record { units = states_of 0 c.args.units.now c.args.kept.now; aims = aims }) o).0) e
+          ap (λ (o : Option Event). (decoded_step p (record { units = states_of 0 c.args.units.now c.args.kept.now.items; aims = aims }) o).0) e
           ∙ ap (λ (us : List UnitState). record { units = us; aims = aims }) (sym t.state);
     }

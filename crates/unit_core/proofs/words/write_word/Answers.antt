@@ -1,4 +1,4 @@
-use Rattle.std.proofs.Common.{◌≡◌, ℕ, Some, sym, ap, ◌∙◌}
+use Rattle.std.proofs.Common.{sym, ap, ◌∙◌}
 use Rattle.std.specs.Prelude.{List, Option}
 use Rattle.event_words.specs.declared.event.Event.{Event}
 use Rattle.unit_core.specs.Places.{states_of}
