@@ -1,9 +1,9 @@
 -- Names and the numbers that stand for them.
-use Rattle.std.proofs.Common.{◌≡◌, ℕ, zero, suc, ◌+◌, ◌-◌, ◌*◌, ◌^◌, ◌<◌, ◌≤◌, ◌&&◌, nat_le, Bool, true, false, cond, List, [], ◌∷◌, ◌++◌, None, Some, Option, length, map, get_or, slice_index, is_some, unwrap_or, refl, ap, sym, subst, ◌∙◌, inl, inr, arith, length-append}
+use Rattle.std.proofs.Common.{◌≡◌, ℕ, zero, suc, ◌+◌, ◌-◌, ◌*◌, ◌^◌, ◌<◌, ◌≤◌, ◌&&◌, nat_le, nat_eq, Bool, true, false, cond, List, [], ◌∷◌, ◌++◌, None, Some, Option, length, map, get_or, slice_index, is_none, if◌then◌else◌, refl, ap, sym, subst, ◌∙◌, inl, inr, arith, length-append}
 use Rattle.std.proofs.Math.Nat.{pow-le-pow_right}
 use Rattle.std.proofs.lemmas.Grind.{pow_more}
-use Rattle.std.proofs.lemmas.Bool.{cases_Bool, cases_lt, leb-true}
-use Rattle.std.proofs.lemmas.Bool.Decides.{nat_tests}
+use Rattle.std.proofs.lemmas.Bool.{cases_Bool, cases_lt, leb-true, eq-eqb}
+use Rattle.std.proofs.lemmas.Bool.Decides.{nat_tests, eqb_tells}
 use Rattle.std.proofs.lemmas.List.{get_or_push, get_or-map, length-map}
 use Rattle.std.proofs.lemmas.List.Elements.{All-get_or}
 use Rattle.std.proofs.lemmas.List.Folds.{list_all-append}
@@ -11,15 +11,13 @@ use Rattle.std.proofs.lemmas.List.Quantifiers.{position-Some}
 use Rattle.std.proofs.lemmas.List.Sums.{AllPass-from_list_all}
 use Rattle.std.proofs.lemmas.Slice.Eq.{bytes_eq-Decides}
 use denote.Ref.{Bor}
-use Rattle.std.specs.Cmp.{nat_cmp_is}
-use Rattle.std.specs.Ordering.{nat_cmp, is_eq}
-use Rattle.std.specs.declared.cmp.Ordering.TheVariants.{Less, Equal, Greater}
 use Rattle.std.specs.List.{list_all}
 use Rattle.std.specs.Str.{bytes_eq}
-use Rattle.std.specs.BTreeMap.{BTreeMap, get, Updates}
-use Rattle.script_reader.specs.Names.{is_letter, is_letter_or_digit, is_name, key_after, key_of, rank_of, slot_of, AreSlotsOf}
+use Rattle.script_reader.specs.Names.{is_letter, is_letter_or_digit, is_name, key_after, key_of, name_key, slot_of, AreKeysOf}
+use Rattle.script_reader.specs.KeySlots.{key_slot}
 use Rattle.script_reader.proofs.Parts.{and_left, and_right}
-use Rattle.script_reader.proofs.Slots.{slot_more, slot_in, is_none}
+use Rattle.script_reader.proofs.Slots.{slot_more}
+use Rattle.script_reader.proofs.KeySlots.{key_slot_more}
 use Rattle.script_reader.proofs.Written.{both}
 
 -- ---- the number of a name so far
@@ -99,43 +97,48 @@ name_bytes : (w : List ℕ) → is_name w ≡ true → list_all is_letter_or_dig
 unfolding is_name
 name_bytes w h = and_right (is_letter (slice_index w 0)) _ (and_right (nat_le 1 (length w) && nat_le (length w) 8) _ h)
 
--- ---- the slots with one name more
-
-equal_is : (a b : ℕ) → a ≡ b → is_eq (nat_cmp a b) ≡ true
-equal_is a b e = ap is_eq (sym (nat_cmp_is a b Equal e))
-
-other_is : (a b : ℕ) → (a ≡ b → ⊥) → is_eq (nat_cmp a b) ≡ false
-other_is a b apart =
-    elim (cases_lt a b) [
-      | inl below ↦ ap is_eq (sym (nat_cmp_is a b Less below))
-      | inr above ↦ ap is_eq (sym (nat_cmp_is a b Greater (omega (arith, above, apart))))
-    ]
+-- ---- the numbers of names with one name more
 
 false_not_true : (b : Bool) → b ≡ false → b ≡ true → ⊥
 false_not_true b f t = cc
 
-name_key : (w : List ℕ) → is_name w ≡ true → key_of w < 2 ^ 64
-name_key w h = key_small w (byte_small w (name_bytes w h)) (name_short w h)
+pub none_is : (o : Option ℕ) → is_none o ≡ true → o ≡ None
+none_is None e = refl
+none_is (Some n) e = cc
 
--- names of one rank are one
-same_rank : (w q : List ℕ) → is_name w ≡ true → is_name q ≡ true → rank_of w ≡ rank_of q → w ≡ q
-same_rank w q h k e = same_key w q (name_bytes w h) (name_bytes q k) (omega (arith, e, name_key w h, name_key q k))
+-- what has a number is a name, and the number is that which its bytes write
+pub key_named : (w : List ℕ) (key : ℕ) → name_key w ≡ Some key → is_name w ≡ true
+key_named w key e = by (is_name w) e
+  where
+    by : (b : Bool) → (if b then Some (key_of w) else None) ≡ Some key → b ≡ true
+    by true e = refl
+    by false e = cc
 
--- ranks compare as names do
-rank_test : (w q : List ℕ) → is_name w ≡ true → is_name q ≡ true → is_eq (nat_cmp (rank_of w) (rank_of q)) ≡ bytes_eq w q
-rank_test w q h k =
+pub key_is : (w : List ℕ) (key : ℕ) → name_key w ≡ Some key → key ≡ key_of w
+key_is w key e = by (is_name w) e
+  where
+    by : (b : Bool) → (if b then Some (key_of w) else None) ≡ Some key → key ≡ key_of w
+    by true e = cc
+    by false e = cc
+
+-- numbers compare as names do
+key_test : (w q : List ℕ) → is_name w ≡ true → is_name q ≡ true → nat_eq (key_of q) (key_of w) ≡ bytes_eq w q
+key_test w q h k =
     elim (cases_Bool (bytes_eq w q)) [
-      | inl t ↦ equal_is (rank_of w) (rank_of q) (ap rank_of ((bytes_eq-Decides w q).0 t)) ∙ sym t
-      | inr f ↦ other_is (rank_of w) (rank_of q) (λ e. false_not_true (bytes_eq w q) f ((bytes_eq-Decides w q).1 (same_rank w q h k e))) ∙ sym f
+      | inl t ↦ eq-eqb (key_of q) (key_of w) (ap key_of (sym ((bytes_eq-Decides w q).0 t))) ∙ sym t
+      | inr f ↦
+          elim (eqb_tells (key_of q) (key_of w)) [
+            | inl same ↦ absurd (false_not_true (bytes_eq w q) f ((bytes_eq-Decides w q).1 (same_key w q (name_bytes w h) (name_bytes q k) (sym same.1))))
+            | inr other ↦ other.0 ∙ sym f
+          ]
     ]
 
-slots_more : (slots new : BTreeMap ℕ ℕ) (names : List (List ℕ)) (w : List ℕ) (slot rank : ℕ) → AreSlotsOf slots names → is_name w ≡ true → slot_of names w ≡ None → rank ≡ rank_of w → slot ≡ length names
-    → Updates nat_cmp slots new rank (Some slot) → (q : List ℕ) → is_name q ≡ true → get nat_cmp new (rank_of q) ≡ slot_of (names ++ w ∷ []) q
-slots_more slots new names w slot rank old h none same count updates q k =
-    updates.0 (rank_of q)
-    ∙ ap (λ n. cond (is_eq (nat_cmp n (rank_of q))) (Some slot) (get nat_cmp slots (rank_of q))) same
-    ∙ ap (λ b. cond b (Some slot) (get nat_cmp slots (rank_of q))) (rank_test w q h k)
-    ∙ ap (λ n. cond (bytes_eq w q) (Some n) (get nat_cmp slots (rank_of q))) count
+all_more : (keys : List ℕ) (names : List (List ℕ)) (w : List ℕ) → AreKeysOf keys names → is_name w ≡ true → slot_of names w ≡ None → (q : List ℕ) → is_name q ≡ true
+    → key_slot (keys ++ key_of w ∷ []) (key_of q) ≡ slot_of (names ++ w ∷ []) q
+all_more keys names w old h none q k =
+    key_slot_more keys (key_of w) (key_of q) (old.all w h ∙ none)
+    ∙ ap (λ b. cond b (Some (length keys)) (key_slot keys (key_of q))) (key_test w q h k)
+    ∙ ap (λ n. cond (bytes_eq w q) (Some n) (key_slot keys (key_of q))) old.count
     ∙ ap (λ o. cond (bytes_eq w q) (Some (length names)) o) (old.all q k)
     ∙ slot_more names w q none
 
@@ -158,27 +161,15 @@ named_is names w slot all e =
     let word : w ≡ get_or names slot [] = (bytes_eq-Decides w (get_or names slot [])).0 found.1 in
     ap is_name word ∙ All-get_or (λ x. is_name x ≡ true) names slot [] found.0 (AllPass-from_list_all is_name names all)
 
-pub slots_added : (slots new : BTreeMap ℕ ℕ) (names : List (List ℕ)) (w : List ℕ) (slot rank : ℕ) → AreSlotsOf slots names → is_name w ≡ true → is_some (slot_of names w) ≡ false → rank ≡ rank_of w → slot ≡ length names
-    → length names < 2 ^ 32 → Updates nat_cmp slots new rank (Some slot) → AreSlotsOf new (names ++ w ∷ [])
-slots_added slots new names w slot rank old h absent same count few updates =
-    let none : slot_of names w ≡ None = is_none (slot_of names w) absent in
-    record {
-      few = omega (arith, few, length-append names (w ∷ []));
-      named = more_named names w old.named h;
-      all = slots_more slots new names w slot rank old h none same count updates;
-      last = λ _. last_added names w none;
-    }
-
--- the slots stay where a name's own slot is given again
-pub slots_kept : (slots new : BTreeMap ℕ ℕ) (names : List (List ℕ)) → AreSlotsOf slots names → ((q : ℕ) → get nat_cmp new q ≡ get nat_cmp slots q) → AreSlotsOf new names
-slots_kept slots new names old same = record { few = old.few; named = old.named; all = λ name k. same (rank_of name) ∙ old.all name k; last = old.last }
-
--- a slot that is given is no slot of the names before
-pub absent_is : (names : List (List ℕ)) (w : List ℕ) (o : Option ℕ) (slot next : ℕ) → o ≡ slot_of names w → slot ≡ unwrap_or o next → slot ≡ next → next ≡ length names → is_some (slot_of names w) ≡ false
-absent_is names w None slot next e value given count = ap is_some (sym e)
-absent_is names w (Some s) slot next e value given count =
-    let below : s < length names = slot_in names w (Some s) e in
-    absurd (omega (arith, below, value, given, count))
+-- the numbers of names with one name more
+pub keys_more : (keys : List ℕ) (names : List (List ℕ)) (w : List ℕ) → AreKeysOf keys names → is_name w ≡ true → slot_of names w ≡ None → length names < 2 ^ 32 → AreKeysOf (keys ++ key_of w ∷ []) (names ++ w ∷ [])
+keys_more keys names w old h none few = record {
+  few = omega (arith, few, length-append names (w ∷ []));
+  count = omega (arith, old.count, length-append keys (key_of w ∷ []), length-append names (w ∷ []));
+  named = more_named names w old.named h;
+  all = all_more keys names w old h none;
+  last = λ _. last_added names w none;
+}
 
 -- the slot of the last of names that are written in a text
 pub last_is : (words : List (Bor (List ℕ))) (names : List (List ℕ)) (x : Bor (List ℕ)) (name : List ℕ) (count : ℕ) → map (λ x. x.now) words ≡ names → count ≡ length words → (count ≡ 0 → ⊥)

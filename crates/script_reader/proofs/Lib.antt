@@ -1,5 +1,6 @@
 pub mod Found
 pub mod Keys
+pub mod KeySlots
 pub mod LineSteps
 pub mod Needs
 pub mod Numerals

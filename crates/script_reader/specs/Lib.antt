@@ -4,6 +4,7 @@ pub mod Text
 pub mod Numbers
 pub mod Words
 pub mod UnitLines
+pub mod KeySlots
 pub mod Names
 pub mod Commands
 pub mod Lines

@@ -5,8 +5,7 @@ use Rattle.std.specs.declared.option.Option.{Option}
 use Rattle.std.specs.declared.result.Result.{Result}
 use Rattle.std.specs.List.{list_all}
 use Rattle.std.specs.Str.{bytes_eq}
-use Rattle.std.specs.Ordering.{nat_cmp}
-use Rattle.std.specs.BTreeMap.{BTreeMap, get}
+use Rattle.script_reader.specs.KeySlots.{key_slot}
 use Rattle.script_reader.specs.Codes.{not_a_name, taken_name, unknown_name}
 
 abbrev pub is_letter : ℕ → Bool
@@ -35,7 +34,7 @@ unfoldable pub with_name : List (List ℕ) → List ℕ → Result (List (List �
 with_name names word =
     if is_name word then (if is_some (slot_of names word) then Err taken_name else Ok (names ++ word ∷ [])) else Err not_a_name
 
--- ---- names by numbers
+-- ---- names by their numbers
 
 -- a number, and then bytes as its further digits in base 256
 abbrev pub key_after : ℕ → List ℕ → ℕ
@@ -46,13 +45,14 @@ key_after key (b ∷ bs) = key_after (key * 256 + b) bs
 abbrev pub key_of : List ℕ → ℕ
 key_of bs = key_after 0 bs
 
--- where a name stands in a map: the greater its number, the lower
-abbrev pub rank_of : List ℕ → ℕ
-rank_of name = 2 ^ 64 - 1 - key_of name
+-- the number of a name
+abbrev pub name_key : List ℕ → Option ℕ
+name_key word = if is_name word then Some (key_of word) else None
 
--- what holds of names and of a map from their ranks to their slots
-pub record AreSlotsOf (slots : BTreeMap ℕ ℕ) (names : List (List ℕ)) : Type 0 where
+-- what holds of names and of their numbers
+pub record AreKeysOf (keys : List ℕ) (names : List (List ℕ)) : Type 0 where
   pub few : length names ≤ 2 ^ 32
+  pub count : length keys ≡ length names
   pub named : list_all is_name names ≡ true
-  pub all : (name : List ℕ) → is_name name ≡ true → get nat_cmp slots (rank_of name) ≡ slot_of names name
+  pub all : (name : List ℕ) → is_name name ≡ true → key_slot keys (key_of name) ≡ slot_of names name
   pub last : 1 ≤ length names → slot_of names (slice_index_or names (length names - 1) []) ≡ Some (length names - 1)

@@ -5,6 +5,7 @@
 #![tactic(auto)]
 
 mod command;
+mod key_slots;
 mod live;
 mod name;
 mod number;

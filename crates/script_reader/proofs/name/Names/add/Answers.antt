@@ -1,33 +1,22 @@
--- A new name's slot is the number of names before it, and the slots of these stay.
-use Rattle.std.proofs.Common.{◌≡◌, ◌^◌, ◌-◌, ◌≤◌, Some, get_or, ◌∷◌, ◌++◌, [], ℕ, List, true, length, map, ap, sym, subst, ◌∙◌, arith, rules}
-use Rattle.std.proofs.lemmas.Grind.{common_steps}
-use Rattle.std.proofs.lemmas.List.{length-map, map_push}
-use Rattle.std.specs.BTreeMap.{get}
-use Rattle.std.specs.List.{list_all}
-use Rattle.std.specs.Ordering.{nat_cmp}
-use Rattle.std.specs.BTreeMap.Entry.{map_with_value, entry_value}
-use Rattle.script_reader.specs.Names.{is_name, slot_of}
-use Rattle.script_reader.proofs.Keys.{slots_added, absent_is}
+-- A new name's number is added too.
+use Rattle.std.proofs.Common.{◌≡◌, ◌<◌, ◌^◌, ℕ, List, [], ◌∷◌, ◌++◌, None, true, is_none, if◌then◌else◌, length, map, ap, sym, subst, ◌∙◌, arith}
+use Rattle.std.proofs.lemmas.List.{map_push}
+use Rattle.script_reader.specs.Names.{is_name, slot_of, key_of, AreKeysOf}
+use Rattle.script_reader.specs.KeySlots.{key_slot}
+use Rattle.script_reader.proofs.Keys.{keys_more, key_named, key_is, none_is}
 use Rattle.script_reader.proofs.name.Names.add.Goals as goal
 
-pub invariant_of-self-else-slot-next : goal.invariant_of-self-else-slot-next
-invariant_of-self-else-slot-next c =
+pub invariant_of-self-in-Ok-true : goal.invariant_of-self-in-Ok-true
+invariant_of-self-in-Ok-true c =
     let words = c.self.inside.words.items in
     let names : List (List ℕ) = map (λ x. x.now) words in
-    let name : is_name c.args.word.now ≡ true = search rules in
-    let count : c.len-next.result ≡ length names = cc (c.len-next.ensures, length-map words (λ x. x.now)) in
-    let more : names ++ c.args.word.now ∷ [] ≡ map (λ x. x.now) c.push.new.self.items = sym (map_push (λ x. x.now) words c.args.word) ∙ ap (map (λ x. x.now)) (sym c.in_ok-push.ensures.items) in
-    let length_is : length names ≡ length c.args.self.now = ap (λ (ns : List (List ℕ)). length ns) c.self.view_is in
-    let slot = c.or_insert-slot.result.now in
-    let new = map_with_value c.in-Ok.entry slot in
-    let given : slot ≡ c.len-next.result = c.if-slot-next.false in
-    let old : entry_value c.in-Ok.entry ≡ slot_of names c.args.word.now =
-    c.in-Ok.ensures.value ∙ ap (get nat_cmp c.self.inside.slots) c.rank.ensures ∙ c.self.invariant.all c.args.word.now name in
-    let added = slots_added c.self.inside.slots new names c.args.word.now slot c.rank.result c.self.invariant name
-    (absent_is names c.args.word.now (entry_value c.in-Ok.entry) slot c.len-next.result old c.or_insert-slot.ensures.value given count) c.rank.ensures (given ∙ count) (omega (arith, length_is, c.requires)) (c.in-Ok.ensures.update.0 slot) in
-    record {
-      few = subst (λ ns. length ns ≤ 2 ^ 32) more added.few;
-      named = subst (λ ns. list_all is_name ns ≡ true) more added.named;
-      all = λ q k. grind (arith, common_steps, added.all q k, ap (λ ns. slot_of ns q) more);
-      last = subst (λ (ns : List (List ℕ)). 1 ≤ length ns → slot_of ns (get_or ns (length ns - 1) []) ≡ Some (length ns - 1)) more added.last;
-    }
+    let keys = c.self.inside.slots in
+    let name : is_name c.args.word.now ≡ true = key_named c.args.word.now c.in-Some.key (sym c.in-Some.ensures) in
+    let key : c.in-Some.key ≡ key_of c.args.word.now = key_is c.args.word.now c.in-Some.key (sym c.in-Some.ensures) in
+    let new : is_none (key_slot keys c.in-Some.key) ≡ true = sym c.in-Ok-true.ensures.value ∙ c.in-Ok-true.field-0-test in
+    let none : slot_of names c.args.word.now ≡ None = none_is _ (sym (ap is_none (ap (key_slot keys) key ∙ c.self.invariant.all c.args.word.now name)) ∙ new) in
+    let few : length names < 2 ^ 32 = omega (arith, c.requires, ap (λ (ns : List (List ℕ)). length ns) c.self.view_is) in
+    let more : map (λ x. x.now) c.push.new.self.items ≡ names ++ c.args.word.now ∷ [] = ap (map (λ x. x.now)) c.in_ok-push.ensures.items ∙ map_push (λ x. x.now) words c.args.word in
+    let added : c.add.new.self ≡ keys ++ key_of c.args.word.now ∷ [] =
+    c.in-Ok-true.ensures.keys ∙ ap (λ t. if t then keys ++ c.in-Some.key ∷ [] else keys) c.in-Ok-true.field-0-test ∙ ap (λ k. keys ++ k ∷ []) key in
+    subst (λ ns. AreKeysOf c.add.new.self ns) (sym more) (subst (λ ks. AreKeysOf ks (names ++ c.args.word.now ∷ [])) (sym added) (keys_more keys names c.args.word.now c.self.invariant name none few))
