@@ -4,7 +4,7 @@ use Rattle.std.proofs.lemmas.Bool.{cases_lt}
 use Rattle.std.proofs.lemmas.Bool.Decides.{nat_tests}
 use Rattle.std.proofs.lemmas.List.{drop_all, drop_more, get_or_past, get_or-set_same, get_or-set_other, length-set}
 use Rattle.script_reader.specs.Text.{is_blank, line_end, first_line, words_of}
-use Rattle.script_reader.specs.Words.{word_at, StandsAt, IsWordTo, HoldsWords}
+use Rattle.script_reader.specs.Words.{word_at, after_space, StandsAt, IsWordTo, HoldsWords}
 use Rattle.script_reader.proofs.FirstLine.{line_length, same_byte, byte_within}
 use Rattle.script_reader.proofs.Parts.{words_of_blank}
 
@@ -45,7 +45,7 @@ is_space : (b : ℕ) → (b == 32) ≡ true → b ≡ 32
 is_space b h = grind (arith, nat_tests)
 
 -- past a space of a text's first line, if one stands there
-pub found_past : (text starts ends : List ℕ) (count at : ℕ) → Found (first_line text) starts ends count at → Found (first_line text) starts ends count (if slice_index text at == 32 then at + 1 else at)
+pub found_past : (text starts ends : List ℕ) (count at : ℕ) → Found (first_line text) starts ends count at → Found (first_line text) starts ends count (after_space text at)
 found_past text starts ends count at found = by (slice_index text at == 32) refl
   where
     by : (b : Bool) → (slice_index text at == 32) ≡ b → Found (first_line text) starts ends count (if b then at + 1 else at)

@@ -1,5 +1,5 @@
 -- The words of a line by their places, from 0.
-use Rattle.std.specs.Prelude.{◌≡◌, ℕ, ◌<◌, ◌≤◌, Bool, List, [], ◌∷◌, length, drop, slice_index, slice_index_or, slice_range}
+use Rattle.std.specs.Prelude.{◌≡◌, ◌==◌, ℕ, ◌+◌, ◌<◌, ◌≤◌, if◌then◌else◌, Bool, List, [], ◌∷◌, length, drop, slice_index, slice_index_or, slice_range}
 use Rattle.std.specs.Str.{bytes_eq}
 use Rattle.script_reader.specs.Text.{words_of}
 
@@ -14,6 +14,10 @@ pub record StandsAt (line : List ℕ) (start end : ℕ) (word : List ℕ) : Type
   pub forward : start ≤ end
   pub within : end ≤ length line
   pub bytes : slice_range line start end ≡ word
+
+-- the place after a space that stands at a place, and else that place
+abbrev pub after_space : List ℕ → ℕ → ℕ
+after_space text at = if slice_index text at == 32 then at + 1 else at
 
 -- the first word from a place on begins there and ends at another, after which come the others
 pub record IsWordTo (line : List ℕ) (start end : ℕ) : Type 0 where

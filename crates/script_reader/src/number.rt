@@ -14,11 +14,15 @@ fn digit(base: u64, byte: u8) -> Option<u64>
     ensures value { result ≡ digit_of base byte }
     ensures small { IfSome result (λ d. d < 16) }
 {
-    let value = match byte {
-        b'0'..=b'9' => byte - b'0',
-        b'a'..=b'z' => byte - b'a' + 10,
-        b'A'..=b'Z' => byte - b'A' + 10,
-        _ => 36,
+    let decimal = byte.wrapping_sub(b'0');
+    let value = if decimal < 10 {
+        decimal
+    } else {
+        match byte {
+            b'a'..=b'z' => byte - b'a' + 10,
+            b'A'..=b'Z' => byte - b'A' + 10,
+            _ => 36,
+        }
     };
     if u64::from(value) < base {
         Some(u64::from(value))

@@ -1,7 +1,7 @@
 // The words of one line.
-ghost use Rattle.std.specs.Prelude.{◌≡◌, ◌==◌, ◌<◌, ◌+◌, if◌then◌else◌, [], false, length, slice_index, slice_set};
+ghost use Rattle.std.specs.Prelude.{◌≡◌, ◌==◌, ◌<◌, [], false, length, slice_index, slice_set};
 ghost use Rattle.script_reader.specs.Text.{is_blank, ends_word, line_end, first_line, words_of};
-ghost use Rattle.script_reader.specs.Words.{word_at, is_word_at, HoldsWords, IsWordTo};
+ghost use Rattle.script_reader.specs.Words.{after_space, word_at, is_word_at, HoldsWords, IsWordTo};
 
 use std::marker::Model;
 
@@ -21,20 +21,28 @@ fn ends_word(byte: u8) -> bool
     is_blank_byte(byte) || byte == b'\n'
 }
 
-/// Where the word ends that begins at a place of a text's first line.
-fn word_end(text: &[u8], start: usize) -> usize
+/// Where the word ends that begins at a place of a text's first line, and the place after it, past a space that may stand
+/// there. Most bytes are above a space, and most words end at one.
+fn word_end(text: &[u8], start: usize) -> (usize, usize)
     requires within { start < line_end text.now }
     requires begins { is_blank (slice_index text.now start) ≡ false }
-    ensures { IsWordTo (first_line text.now) start result }
+    ensures word { IsWordTo (first_line text.now) start result.0 }
+    ensures after { result.1 ≡ after_space text.now result.0 }
 {
     let mut end = start + 1;
     while end < text.len() {
-        if ends_word(text[end]) {
-            return end;
+        let byte = text[end];
+        if byte <= b' ' {
+            if byte == b' ' {
+                return (end, end + 1);
+            }
+            if ends_word(byte) {
+                return (end, end);
+            }
         }
         end += 1;
     }
-    end
+    (text.len(), text.len())
 }
 
 /// Keeps a place where there is room for it.
@@ -43,17 +51,6 @@ fn keep(places: &mut [usize; MOST_WORDS], i: usize, place: usize)
 {
     if i < MOST_WORDS {
         places[i] = place;
-    }
-}
-
-/// The place after a space that stands at a place, and else that place.
-fn past_space(text: &[u8], at: usize) -> usize
-    ensures { result ≡ (if slice_index text.now at == 32 then at + 1 else at) }
-{
-    if at < text.len() && text[at] == b' ' {
-        at + 1
-    } else {
-        at
     }
 }
 
@@ -76,11 +73,11 @@ fn split(
         if is_blank_byte(text[at]) {
             at += 1;
         } else {
-            let end = word_end(text, at);
+            let (end, next) = word_end(text, at);
             keep(starts, count, at);
             keep(ends, count, end);
             count += 1;
-            at = past_space(text, end);
+            at = next;
         }
     }
     (count, at)

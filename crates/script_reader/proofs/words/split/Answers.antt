@@ -33,8 +33,9 @@ loop-at-preserved c =
     let line = first_line text in
     let starts = c.keep.new.places in
     let ends = c.keep-else-is_blank_byte.new.places in
-    let found : Found line starts ends (c.loop-at.count + 1) c.word_end-end.result =
-    subst (λ s. Found line s ends (c.loop-at.count + 1) c.word_end-end.result) (sym c.keep.ensures)
-    (subst (λ e. Found line (slice_set c.loop-at.starts c.loop-at.count c.loop-at.at) e (c.loop-at.count + 1) c.word_end-end.result) (sym c.keep-else-is_blank_byte.ensures)
-    (found_word line c.loop-at.starts c.loop-at.ends c.loop-at.count c.loop-at.at c.word_end-end.result c.word_end-end.ensures c.loop-at.invariant)) in
-    subst (Found line starts ends (c.loop-at.count + 1)) (sym c.past_space-at.ensures) (found_past text starts ends (c.loop-at.count + 1) c.word_end-end.result found)
+    let end = c.word_end-end.result.0 in
+    let found : Found line starts ends (c.loop-at.count + 1) end =
+    subst (λ s. Found line s ends (c.loop-at.count + 1) end) (sym c.keep.ensures)
+    (subst (λ e. Found line (slice_set c.loop-at.starts c.loop-at.count c.loop-at.at) e (c.loop-at.count + 1) end) (sym c.keep-else-is_blank_byte.ensures)
+    (found_word line c.loop-at.starts c.loop-at.ends c.loop-at.count c.loop-at.at end c.word_end-end.ensures.word c.loop-at.invariant)) in
+    subst (Found line starts ends (c.loop-at.count + 1)) (sym c.word_end-end.ensures.after) (found_past text starts ends (c.loop-at.count + 1) end found)
