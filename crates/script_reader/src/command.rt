@@ -179,8 +179,10 @@ pub fn submit(units: u8, slot: u32, words: &Words<'_>) -> Result<Command, u8>
     Ok(Command::Submit { unit, access, slot })
 }
 
+/// The command of a line `j`.
+#[inline(always)]
 #[tactic(auto, unfolding(crate::specs::Commands::judge_at))]
-fn judge(names: &Names<'_>, words: &Words<'_>) -> Result<Command, u8>
+pub fn judge(names: &Names<'_>, words: &Words<'_>) -> Result<Command, u8>
     ensures value { result ≡ judge_at names.now words.now }
     ensures good { IfOk result (λ command. (units : ℕ) → IsGoodCommand units
         (length names.now) command) }

@@ -5,7 +5,7 @@ ghost use Rattle.script_reader.specs.Numbers.{number_at};
 ghost use Rattle.script_reader.specs.Text.{IsPlainLine, words_of};
 ghost use Rattle.script_reader.specs.Words.{is_word_at};
 
-use crate::command::{command, submit, write};
+use crate::command::{command, judge, submit, write};
 use crate::number::number;
 use crate::section::OpenSection;
 use crate::step::{MISPLACED, MISSHAPEN, NO_HEAD, NOT_PLAIN, OUT_OF_RANGE, StepError};
@@ -257,6 +257,23 @@ impl<'a> Reader<'a> {
         self.section.push(command)
     }
 
+    /// A judgement, which is meant as often as a submission.
+    #[tactic(auto, unfolding(crate::specs::Lines::command_step, crate::specs::Commands::command_at))]
+    fn judge_line(&mut self, words: &Words<'a>) -> Result<(), StepError>
+        requires in_section { IsInSection self.old.place }
+        requires sound { IsSound self.old }
+        requires write { is_word_at words.now 0 (codes "w") ≡ false }
+        requires read { is_word_at words.now 0 (codes "r") ≡ false }
+        requires judge { is_word_at words.now 0 (codes "j") ≡ true }
+        ensures value { Moves result self.new (spec.command_step self.old words.now) }
+        ensures sound { OnOk result (IsSound self.new) }
+        ensures grown { OnOk result (length self.new.section.commands ≤
+            length self.old.section.commands + 1) }
+    {
+        let command = judge(self.section.names(), words)?;
+        self.section.push(command)
+    }
+
     #[tactic(auto, unfolding(crate::specs::Lines::command_step))]
     fn command_line(&mut self, words: &Words<'a>) -> Result<(), StepError>
         requires in_section { IsInSection self.old.place }
@@ -307,6 +324,8 @@ impl<'a> Reader<'a> {
             self.submit_line(words)
         } else if words.is_word(0, b"w") {
             self.write_line(words)
+        } else if !words.is_word(0, b"r") && words.is_word(0, b"j") {
+            self.judge_line(words)
         } else {
             self.command_line(words)
         }
