@@ -14,6 +14,11 @@ use Rattle.event_words.specs.declared.section.Command.{Command}
 use Rattle.event_words.specs.Sections.{SectionOf}
 use Rattle.unit_core.specs.Histories.{History, history_of, IsLegalHistory}
 use Rattle.history_laws.specs.Live.{KeepsPolicies, LawLive, IsUpdateHistory}
+use Rattle.history_reports.specs.declared.runs.WhichReport.{WhichReport}
+use Rattle.history_reports.specs.declared.runs.WhichReport.TheVariants.{Plain, WithFaults}
+use Rattle.history_reports.specs.ReportedRuns.{IsRun}
+use Rattle.history_reports.specs.FaultReports.{IsFaultsRun}
+use Rattle.history_reports.specs.WantedReports.{IsRunOf}
 use Rattle.iopmp_program.specs.declared.status.Status.{Status}
 use Rattle.iopmp_program.specs.declared.status.Status.TheVariants.{Done}
 use Rattle.iopmp_program.specs.declared.answer.Answer.{Answer}
@@ -24,13 +29,10 @@ use Rattle.iopmp_program.specs.declared.refusals.policy_lines.WhichPolicy.TheVar
 use Rattle.iopmp_program.specs.declared.inputs.update.WhichPlan.{WhichPlan}
 use Rattle.iopmp_program.specs.declared.inputs.update.WhichPlan.TheVariants.{Whole}
 use Rattle.iopmp_program.specs.declared.inputs.update.WhichPlan.TheVariants as plans
-use Rattle.iopmp_program.specs.declared.playing.reported.WhichReport.{WhichReport}
-use Rattle.iopmp_program.specs.declared.playing.reported.WhichReport.TheVariants.{Plain, WithFaults}
 use Rattle.iopmp_program.specs.AnswerForms.{TextOf, ReportOf, GivesOr}
-use Rattle.iopmp_program.specs.ReportedRuns.{IsRun}
 use Rattle.script_reader.specs.ReportTexts.{ReportTextOf, report_text_at}
 use Rattle.iopmp_program.specs.RunCommand.{IsReport, IsRefusal}
-use Rattle.iopmp_program.specs.FaultsCommand.{IsFaultsRun, IsFaultsReport, IsRunOf}
+use Rattle.iopmp_program.specs.FaultsCommand.{IsFaultsReport}
 use Rattle.iopmp_program.specs.AuditCommand.{CanBeAudited, IsSaid, HasNoReport}
 use Rattle.iopmp_program.specs.CompileCommand.{IsImageText, NeedsMore}
 use Rattle.iopmp_program.specs.UpdateInputs.{UpdateOf, IsUpdate, IsReadable, IsNoUpdate, HasNoPlan}

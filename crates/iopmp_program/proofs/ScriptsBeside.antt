@@ -13,11 +13,11 @@ use Rattle.script_reader.specs.LiveLanes.{lanes_at, AreLiveLanes}
 use Rattle.policy_compiler.specs.Images.{ImageOf, image_of}
 use Rattle.policy_compiler.proofs.ImageSections.{image_is_valid, image_names_unit_0}
 use Rattle.update_planner.specs.Plans.{rewrite, rewrites, plan_commands}
+use Rattle.history_reports.specs.ReportedRuns.{IsRun}
 use Rattle.iopmp_program.specs.declared.answer.NoAnswer.{NoAnswer}
 use Rattle.iopmp_program.specs.declared.answer.NoAnswer.TheVariants.{Refused, NoMemory}
 use Rattle.iopmp_program.specs.declared.answer.Answer.{Answer}
 use Rattle.iopmp_program.specs.AnswerForms.{HasLine, ReportOf}
-use Rattle.iopmp_program.specs.ReportedRuns.{IsRun}
 use Rattle.iopmp_program.specs.FaultLines.{refusal_line}
 use Rattle.iopmp_program.specs.UpdateInputs.{UpdateOf, IsReadable}
 use Rattle.iopmp_program.specs.declared.inputs.update.WhichPlan.{WhichPlan}

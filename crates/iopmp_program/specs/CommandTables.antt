@@ -1,13 +1,13 @@
 -- What each command answers: its texts, its refusals, and the inputs that it accepts. A line for each command; what
 -- a line says stands in the command's own file.
 use Rattle.std.specs.Prelude.{ℕ, Bool, true, false, List, Option, Result}
+use Rattle.history_reports.specs.declared.runs.WhichReport.{WhichReport}
+use Rattle.history_reports.specs.declared.runs.WhichReport.TheVariants as reports
 use Rattle.iopmp_program.specs.declared.status.Status.{Status}
 use Rattle.iopmp_program.specs.declared.subcommand.Subcommand.{Subcommand}
 use Rattle.iopmp_program.specs.declared.subcommand.Subcommand.TheVariants.{Run, Compile, Plan, Live, Gen, Soak, Faults, Audit, Narrow, NarrowLive}
 use Rattle.iopmp_program.specs.declared.inputs.update.WhichPlan.{WhichPlan}
 use Rattle.iopmp_program.specs.declared.inputs.update.WhichPlan.TheVariants as plans
-use Rattle.iopmp_program.specs.declared.playing.reported.WhichReport.{WhichReport}
-use Rattle.iopmp_program.specs.declared.playing.reported.WhichReport.TheVariants as reports
 use Rattle.iopmp_program.specs.declared.answer.Answer.{Answer}
 use Rattle.iopmp_program.specs.declared.answer.NoAnswer.{NoAnswer}
 use Rattle.iopmp_program.specs.AnswerForms.{TextOf, ReportOf, GivesOr}

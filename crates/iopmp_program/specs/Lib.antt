@@ -1,13 +1,9 @@
 -- What a call of the program gives: how it is asked, what each command answers, and how it ends.
-pub mod Replays
 pub mod StatusCodes
 pub mod CommandWords
 pub mod FaultLines
 pub mod AnswerForms
-pub mod ReportedRuns
 pub mod RunCommand
-pub mod Requesters
-pub mod WindowLines
 pub mod FaultsCommand
 pub mod PolicyLines
 pub mod CompileCommand
@@ -24,4 +20,3 @@ pub mod AuditCommand
 pub mod CommandTables
 pub mod CallEndings
 pub mod StreamEdges
-pub mod SectionEnds

@@ -12,8 +12,8 @@ use Rattle.policy_compiler.specs.Needs.{need_refusal}
 use Rattle.policy_compiler.specs.Images.{image_of}
 use Rattle.policy_compiler.specs.Commands.{image_section}
 use Rattle.update_planner.specs.Refusals.{plan_refusal}
+use Rattle.history_reports.specs.ReportedRuns.{IsRun}
 use Rattle.iopmp_program.specs.FaultLines.{refusal_line}
-use Rattle.iopmp_program.specs.ReportedRuns.{IsRun}
 use Rattle.iopmp_program.specs.UpdateInputs.{UpdateOf, HasNoPlan}
 
 -- One unit of the policies' shape, the old image's writes as the boot section, a plan as lane 1, and the given lanes

@@ -3,8 +3,8 @@ use Rattle.std.specs.Prelude.{◌≡◌, ℕ, List, Some, Ok, Err}
 use Rattle.script_reader.specs.declared.script.ScriptError.{ScriptError}
 use Rattle.script_reader.specs.Scripts.{ScriptOf}
 use Rattle.script_reader.specs.Answers.{reading_of}
+use Rattle.history_reports.specs.ReportedRuns.{IsRun}
 use Rattle.iopmp_program.specs.FaultLines.{refusal_line}
-use Rattle.iopmp_program.specs.ReportedRuns.{IsRun}
 
 -- The report of a history of the script that the bytes stand for.
 pub record IsReport (bytes history text : List ℕ) : Type 0 where

@@ -12,12 +12,12 @@ mod soak;
 
 use crate::answer::{Answer, NoAnswer};
 use crate::inputs::update::WhichPlan;
-use crate::playing::reported::WhichReport;
 use crate::subcommand::Subcommand;
 use audit::audit_answer;
 use checker_workers::Gate;
 use compile::compile_answer;
 use generate::gen_answer;
+use history_reports::WhichReport;
 use live::live_answer;
 use plan::plan_answer;
 use run::run_answer;

@@ -11,13 +11,12 @@ mod inputs;
 mod playing;
 mod program;
 mod refusals;
-mod reports;
 mod status;
 mod subcommand;
 #[cfg(test)]
 mod tests;
 
+pub use history_reports::report;
 pub use program::top;
-pub use reports::report;
 pub use script_player::{NoMemory, play};
 pub use status::{Outcome, Status};

@@ -4,8 +4,9 @@ ghost use Rattle.iopmp_program.specs.CommandTables.{Answers, run_command};
 
 use crate::answer::{Answer, NoAnswer};
 use crate::inputs::script::written_script;
-use crate::playing::reported::{WhichReport, played};
+use crate::playing::reported::played;
 use checker_workers::Gate;
+use history_reports::WhichReport;
 use std::alloc::Global;
 use std::thread::Threads;
 

@@ -10,13 +10,14 @@ ghost use Rattle.iopmp_program.specs.UpdateInputs.{IsReadable};
 ghost use Rattle.iopmp_program.specs.PlansBeside.{script_beside, IsPlayablePlan};
 ghost use Rattle.iopmp_program.specs.UpdateScripts.{IsLanesOr, IsAffordableOr, IsScriptOfUpdateOr, IsPlayedOr};
 
-use super::reported::{WhichReport, played};
+use super::reported::played;
 use crate::answer::{Answer, NoAnswer};
 use crate::images::image_section;
 use crate::inputs::update::Update;
 use crate::refusals::bad_line;
 use checker_workers::Gate;
 use event_words::{Section, Shape};
+use history_reports::WhichReport;
 use policy_compiler::{Policy, compile};
 use script_reader::{Script, ScriptError, read_lanes};
 use std::alloc::{AllocError, Global};

@@ -1,7 +1,7 @@
 // Callers' aims, on a unit alone.
-use crate::reports::replay::replay_words;
 use crate::tests::SMALL_UNIT;
 use event_words::{Denial, Event, Kind, Reply, Verdict, pack};
+use history_reports::replay_words;
 use std::test::Fail;
 
 /// A write by caller 0.

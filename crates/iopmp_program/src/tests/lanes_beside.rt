@@ -1,11 +1,11 @@
 // Lanes beside each other.
-use crate::reports::replay::replay_words;
 use crate::tests::meeting::Meeting;
 use crate::tests::rows::UNIT;
 use crate::tests::{NONE, called, expect, has};
 use crate::{Status, play, report};
 use checker_workers::FreeGate;
 use event_words::{Event, LoggedEvent, Reply};
+use history_reports::replay_words;
 use script_reader::read_script;
 use std::test::Fail;
 use std::thread::Threads;

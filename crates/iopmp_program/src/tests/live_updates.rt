@@ -1,10 +1,10 @@
 // The command `live`: an update beside a lane, and its refusals.
-use crate::reports::replay::replay_words;
 use crate::tests::meeting::Meeting;
 use crate::tests::{NONE, called, expect, has};
 use crate::{Outcome, Status};
 use checker_workers::FreeGate;
 use event_words::{Event, Reply, Verdict};
+use history_reports::replay_words;
 use script_reader::read_script;
 use std::alloc::Global;
 use std::test::Fail;

@@ -1,9 +1,9 @@
 // The decisions of the rows, once more by the plain reading of the rules.
 use crate::play;
-use crate::reports::replay::{Replay, replay_words};
 use crate::tests::rows::{ROWS, Row};
 use checker_workers::FreeGate;
 use event_words::{Access, Decision, Event, LoggedEvent, Register, Reply, Shape, Verdict};
+use history_reports::{Replay, replay_words};
 use lock_rules::keep_mask;
 use match_rules::decide;
 use register_fields::{Regs, has_bit};
