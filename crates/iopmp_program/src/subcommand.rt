@@ -1,7 +1,7 @@
 // The commands of the program.
 ghost use Rattle.std.specs.Prelude.{◌≡◌, map};
 ghost use Rattle.std.specs.String.{string_bytes};
-ghost use Rattle.iopmp_program.specs.CommandWords.{numbered, two_words, command_of};
+ghost use Rattle.iopmp_program.specs.CommandWords.{one_word, numbered, two_words, command_of};
 ghost use Rattle.iopmp_program.specs.CommandTables.{reads};
 
 use script_generator::script_number;
@@ -50,6 +50,34 @@ impl Subcommand {
     }
 }
 
+/// The commands of one word.
+fn one_word(word: &str) -> Option<Subcommand>
+    ensures { result ≡ one_word word.now }
+{
+    if word == "run" {
+        return Some(Subcommand::Run);
+    }
+    if word == "compile" {
+        return Some(Subcommand::Compile);
+    }
+    if word == "plan" {
+        return Some(Subcommand::Plan);
+    }
+    if word == "live" {
+        return Some(Subcommand::Live);
+    }
+    if word == "faults" {
+        return Some(Subcommand::Faults);
+    }
+    if word == "audit" {
+        return Some(Subcommand::Audit);
+    }
+    if word == "narrow" {
+        return Some(Subcommand::Narrow);
+    }
+    None
+}
+
 /// The commands that take the number of a generated script.
 fn numbered(word: &str, number: &str) -> Option<Subcommand>
     ensures { result ≡ numbered word.now number.now }
@@ -82,13 +110,7 @@ pub fn command_in(words: &[String]) -> Option<Subcommand>
     ensures { result ≡ command_of (map string_bytes words.now) }
 {
     match words {
-        [word] if word.as_str() == "run" => Some(Subcommand::Run),
-        [word] if word.as_str() == "compile" => Some(Subcommand::Compile),
-        [word] if word.as_str() == "plan" => Some(Subcommand::Plan),
-        [word] if word.as_str() == "live" => Some(Subcommand::Live),
-        [word] if word.as_str() == "faults" => Some(Subcommand::Faults),
-        [word] if word.as_str() == "audit" => Some(Subcommand::Audit),
-        [word] if word.as_str() == "narrow" => Some(Subcommand::Narrow),
+        [word] => one_word(word.as_str()),
         [word, next] => two_words(word.as_str(), next.as_str()),
         _ => None,
     }

@@ -6,6 +6,9 @@ ghost use Rattle.policy_compiler.specs.Images.{image_of};
 ghost use Rattle.policy_compiler.specs.Commands.{image_section};
 ghost use Rattle.script_reader.specs.Scripts.{IsWellFormedScript, need_of};
 ghost use Rattle.script_reader.specs.LiveLanes.{AreLiveLanes};
+ghost use Rattle.script_reader.specs.declared.script.ScriptError.TheVariants.{TooManyEvents};
+ghost use Rattle.iopmp_program.specs.AnswerForms.{HasLine};
+ghost use Rattle.iopmp_program.specs.FaultLines.{refusal_line};
 ghost use Rattle.iopmp_program.specs.UpdateInputs.{IsReadable};
 ghost use Rattle.iopmp_program.specs.PlansBeside.{script_beside, IsPlayablePlan};
 ghost use Rattle.iopmp_program.specs.UpdateScripts.{IsLanesOr, IsAffordableOr, IsScriptOfUpdateOr, IsPlayedOr};
@@ -87,6 +90,17 @@ fn update_script(
     assembled(alloc, update.old.shape, boot, plan, others)
 }
 
+/// The refusal of a script that needs so many events.
+fn too_many(alloc: Global, need: u64) -> NoAnswer
+    ensures { HasLine result (refusal_line (TooManyEvents need 1048576)) }
+{
+    let error = ScriptError::TooManyEvents {
+        need,
+        have: MOST_NEEDED,
+    };
+    bad_line(alloc, &error)
+}
+
 /// A script whose run needs few enough events.
 fn affordable(alloc: Global, script: Script) -> Result<Script, NoAnswer>
     requires { IsWellFormedScript script }
@@ -96,11 +110,7 @@ fn affordable(alloc: Global, script: Script) -> Result<Script, NoAnswer>
 {
     let need = script.need();
     if MOST_NEEDED < need {
-        let error = ScriptError::TooManyEvents {
-            need,
-            have: MOST_NEEDED,
-        };
-        return Err(bad_line(alloc, &error));
+        return Err(too_many(alloc, need));
     }
     Ok(script)
 }

@@ -1,9 +1,17 @@
--- What was found of the report is said of the input.
+-- No heading, no script before it, or what was found of the report.
 use Rattle.std.proofs.Common.{Ok, sym, ap, ◌∙◌}
 use Rattle.script_reader.specs.ReportTexts.{ReportTextOf}
 use Rattle.iopmp_program.specs.AuditCommand.{CanBeAudited}
-use Rattle.iopmp_program.proofs.CommandAnswers.{audit_said}
+use Rattle.iopmp_program.proofs.CommandAnswers.{no_parts, no_script, audit_said}
 use Rattle.iopmp_program.proofs.commands.audit.audit_answer.Goals as goal
+
+pub returns-in-Err : goal.returns-in-Err
+returns-in-Err c = no_parts c.args.bytes.now c.in-Err.refused c.in-Err.ensures.parts
+
+pub returns-in-Err-written_script : goal.returns-in-Err-written_script
+returns-in-Err-written_script c =
+    let parts : ReportTextOf = record { script = c.parts.inside.script.now; heading = c.parts.inside.heading; report = c.parts.inside.report.now } in
+    no_script c.args.bytes.now parts c.in-Err-written_script.refused (c.in-Ok.ensures.parts ∙ ap Ok (sym c.parts.view_is)) c.in-Err-written_script.ensures.script
 
 pub returns : goal.returns
 returns c =
