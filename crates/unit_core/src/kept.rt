@@ -78,6 +78,21 @@ fn requester_at(word: u64) -> u8
     (word >> 48 & 63) as u8
 }
 
+/// The requester of the word of a Submit, where it is of this unit and this caller.
+#[inline(always)]
+fn requester_in(word: u64, unit: u8, caller: u8) -> Option<u8>
+    requires kind { word / 2 ^ 61 ≡ 3 }
+    requires submit { is_submit_word word ≡ true }
+    ensures { result ≡ option_map (λ access. access.rrid)
+        (access_of unit caller (submission_in (kept_of_event (event_of_word word)))) }
+{
+    if unit_at(word) == unit && caller_at(word) == caller {
+        Some(requester_at(word))
+    } else {
+        None
+    }
+}
+
 /// The requester of the wide submission of a number, as `wide_access` has it.
 #[inline(never)]
 fn wide_requester(wide: &[Kept], number: u64, unit: u8, caller: u8) -> Option<u8>
@@ -225,8 +240,22 @@ impl KeptEvents {
         if word >> 61 != SUBMIT_KIND {
             return wide_requester(self.wide.as_slice(), word, unit, caller);
         }
-        if unit_at(word) == unit && caller_at(word) == caller {
-            Some(requester_at(word))
+        requester_in(word, unit, caller)
+    }
+
+    /// The same, but it may be that none is found where the submission is a wide one.
+    #[inline(always)]
+    pub fn narrow_requester(&self, unit: u8, caller: u8, place: u32) -> Option<u8>
+        ensures value { IfSome result (λ rrid. option_map (λ access. access.rrid)
+            (open_access self.now.items unit caller place) ≡ Some rrid) }
+        ensures inside { OnSome result (place < length self.now.items) }
+    {
+        if place as usize >= self.words.len() {
+            return None;
+        }
+        let word = self.words[place as usize];
+        if word >> 61 == SUBMIT_KIND {
+            requester_in(word, unit, caller)
         } else {
             None
         }
