@@ -52,6 +52,11 @@ ends_command (Submission unit) = true
 ends_command (Judging slot left) = true
 ends_command _ = false
 
+-- whether the command of the awaited event goes on after it
+abbrev pub goes_on : Ahead → Bool
+goes_on (Awaiting event part) = not (ends_command part)
+goes_on _ = false
+
 -- How the record ends after the awaited event, which came as this.
 abbrev pub end_after : ℕ → List Command → List (Option OpenSlot) → Event → Part → LoggedEvent → List LoggedEvent → Option SectionEnd
 end_after caller cs slots event Alone x xs = end_of_commands caller cs slots xs

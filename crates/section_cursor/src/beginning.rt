@@ -10,6 +10,7 @@ ghost use Rattle.std.specs.List.{AllByRecursion};
 ghost use Rattle.event_words.specs.Events.{caller_of};
 ghost use Rattle.event_words.specs.Valid.{IsValidAccess, IsValidEvent};
 ghost use Rattle.section_cursor.specs.declared.ahead.Ahead.TheVariants as aheads;
+ghost use Rattle.section_cursor.specs.declared.ahead.Part.TheVariants as parts;
 ghost use Rattle.section_cursor.specs.ValidEvents.{IsValidAhead, IsValidChain, IsValidPart, IsValidSlot, IsPlayable};
 ghost use Rattle.section_cursor.specs.Cursors.{end_of_rest, stages_on, part_submits, submits, AheadHasTries, PartHasTries, HasTries};
 
@@ -34,7 +35,8 @@ fn first_try(event: Event, tries: u32, part: Part) -> Ahead
 }
 
 /// Up to `tries` judgements of an open slot.
-pub(crate) fn judging(slot: u32, event: Event, tries: u32) -> Ahead
+#[inline(always)]
+fn judging(slot: u32, event: Event, tries: u32) -> Ahead
     ensures rest { (caller : ℕ) (cs : List Commands) (slots : List (Option records.OpenSlot))
         (xs : List LoggedEvent) →
         end_of_rest caller cs slots result xs
@@ -202,6 +204,16 @@ fn slot_of(slots: &[Option<OpenSlot>], slot: u32) -> Option<OpenSlot>
     }
 }
 
+fn judgement(caller: u8, taken: OpenSlot) -> Event
+    ensures { result ≡ events.Judge taken.unit caller taken.place }
+{
+    Event::Judge {
+        unit: taken.unit,
+        caller,
+        place: taken.place,
+    }
+}
+
 /// Up to `tries` judgements of a slot, and none where it isn't open.
 fn settling(caller: u8, slots: &[Option<OpenSlot>], slot: u32, tries: u32) -> Ahead
     ensures rest { (cs : List Commands) (xs : List LoggedEvent) →
@@ -216,12 +228,7 @@ fn settling(caller: u8, slots: &[Option<OpenSlot>], slot: u32, tries: u32) -> Ah
     let Some(open) = slot_of(slots, slot) else {
         return Ahead::Between;
     };
-    let judgement = Event::Judge {
-        unit: open.unit,
-        caller,
-        place: open.place,
-    };
-    judging(slot, judgement, tries)
+    judging(slot, judgement(caller, open), tries)
 }
 
 fn write_event(caller: u8, unit: u8, index: u32, value: u32) -> Event
@@ -246,15 +253,7 @@ fn read_event(caller: u8, unit: u8, index: u32) -> Event
 }
 
 fn alone(event: Event) -> Ahead
-    ensures rest { (caller : ℕ) (cs : List Commands) (slots : List (Option records.OpenSlot))
-        (xs : List LoggedEvent) →
-        end_of_rest caller cs slots result xs
-        ≡ after_piece (end_of_commands caller cs)
-        (records.one_piece slots (records.take_event event xs)) }
-    ensures none { submits result ≡ 0 }
-    ensures tries { AheadHasTries result }
-    ensures valid { (who : ℕ) → caller_of event ≡ who → IsValidEvent event →
-        IsValidAhead who result }
+    ensures { result ≡ aheads.Awaiting event parts.Alone }
 {
     Ahead::Awaiting {
         event,
@@ -263,15 +262,7 @@ fn alone(event: Event) -> Ahead
 }
 
 fn submitting(unit: u8, event: Event) -> Ahead
-    ensures rest { (caller : ℕ) (cs : List Commands) (slots : List (Option records.OpenSlot))
-        (xs : List LoggedEvent) →
-        end_of_rest caller cs slots result xs
-        ≡ after_piece (end_of_commands caller cs)
-        (records.submit_piece slots unit (records.take_event event xs)) }
-    ensures one { submits result ≡ 1 }
-    ensures tries { AheadHasTries result }
-    ensures valid { (who : ℕ) → caller_of event ≡ who → IsValidEvent event → unit < 4 →
-        IsValidAhead who result }
+    ensures { result ≡ aheads.Awaiting event (parts.Submission unit) }
 {
     Ahead::Awaiting {
         event,
@@ -312,17 +303,18 @@ fn submitting_access(caller: u8, unit: u8, access: Access) -> Ahead
     aiming(caller, unit, access)
 }
 
-/// What a command begins with: `Between` where it makes no event.
-pub(crate) fn begun_with(caller: u8, command: &Command, slots: &[Option<OpenSlot>]) -> Ahead
+/// What `begin_with` does, for any command.
+#[inline(never)]
+fn begin_any(caller: u8, ahead: &mut Ahead, command: &Command, slots: &[Option<OpenSlot>])
     ensures rest { (cs : List Commands) (xs : List LoggedEvent) →
-        end_of_rest caller cs slots.now result xs
+        end_of_rest caller cs slots.now ahead.new xs
         ≡ end_of_commands caller (command.now ∷ cs) slots.now xs }
-    ensures submits { submits result ≡ (if is_submit command.now then 1 else 0) }
-    ensures tries { HasTries command.now → AheadHasTries result }
+    ensures submits { submits ahead.new ≡ (if is_submit command.now then 1 else 0) }
+    ensures tries { HasTries command.now → AheadHasTries ahead.new }
     ensures valid { caller < 32 → AllByRecursion IsValidSlot slots.now → IsPlayable command.now →
-        IsValidAhead caller result }
+        IsValidAhead caller ahead.new }
 {
-    match *command {
+    *ahead = match *command {
         Command::Write { unit, index, value } => alone(write_event(caller, unit, index, value)),
         Command::Read { unit, index } => alone(read_event(caller, unit, index)),
         Command::Submit { unit, access, .. } => submitting_access(caller, unit, access),
@@ -349,5 +341,68 @@ pub(crate) fn begun_with(caller: u8, command: &Command, slots: &[Option<OpenSlot
             },
             access.rrid,
         ),
+    };
+}
+
+/// Awaits a write.
+#[inline(never)]
+fn write(caller: u8, ahead: &mut Ahead, unit: u8, index: u32, value: u32)
+    ensures { ahead.new ≡ aheads.Awaiting (events.RegWrite unit caller index value) parts.Alone }
+{
+    *ahead = alone(write_event(caller, unit, index, value));
+}
+
+/// Awaits a submission of one event.
+#[inline(never)]
+fn submit(caller: u8, ahead: &mut Ahead, unit: u8, access: &Access)
+    ensures { ahead.new ≡ aheads.Awaiting (events.Submit unit caller access.now)
+        (parts.Submission unit) }
+{
+    *ahead = submitting(unit, submission(caller, unit, *access));
+}
+
+/// Awaits the one judgement of an open slot.
+#[inline(never)]
+fn judge(caller: u8, ahead: &mut Ahead, slot: u32, taken: OpenSlot)
+    ensures rest { (cs : List Commands) (slots : List (Option records.OpenSlot))
+        (xs : List LoggedEvent) →
+        end_of_rest caller cs slots ahead.new xs
+        ≡ after_piece (end_of_commands caller cs)
+        (settled slots slot (judgements 1 (events.Judge taken.unit caller taken.place) xs)) }
+    ensures none { submits ahead.new ≡ 0 }
+    ensures tries { AheadHasTries ahead.new }
+    ensures valid { IsValidEvent (events.Judge taken.unit caller taken.place) →
+        IsValidAhead caller ahead.new }
+{
+    *ahead = judging(slot, judgement(caller, taken), 1);
+}
+
+/// Writes what a command begins with: `Between` where it makes no event. The commands that most sections
+/// consist of write it in functions of their own: in one, each pays for the words of the largest.
+#[inline(always)]
+pub(crate) fn begin_with(
+    caller: u8,
+    ahead: &mut Ahead,
+    command: &Command,
+    slots: &[Option<OpenSlot>],
+)
+    ensures rest { (cs : List Commands) (xs : List LoggedEvent) →
+        end_of_rest caller cs slots.now ahead.new xs
+        ≡ end_of_commands caller (command.now ∷ cs) slots.now xs }
+    ensures submits { submits ahead.new ≡ (if is_submit command.now then 1 else 0) }
+    ensures tries { HasTries command.now → AheadHasTries ahead.new }
+    ensures valid { caller < 32 → AllByRecursion IsValidSlot slots.now → IsPlayable command.now →
+        IsValidAhead caller ahead.new }
+{
+    match command {
+        Command::Write { unit, index, value } => write(caller, ahead, *unit, *index, *value),
+        Command::Submit { unit, access, .. } if access.narrow() => {
+            submit(caller, ahead, *unit, access)
+        }
+        Command::Judge { slot } => match slot_of(slots, *slot) {
+            Some(open) => judge(caller, ahead, *slot, open),
+            None => *ahead = Ahead::Between,
+        },
+        _ => begin_any(caller, ahead, command, slots),
     }
 }
