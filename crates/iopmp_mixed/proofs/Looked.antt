@@ -1,10 +1,10 @@
 -- A call after a look ends as one without it.
 use Rattle.std.proofs.Common.{ℕ, Bool, true, false, List, Option, Some, None, subst, inl, inr}
 use Rattle.std.specs.Io.KnownBytes.{Keeps}
-use Rattle.iopmp_program.specs.declared.status.Status.{Status}
-use Rattle.iopmp_program.specs.declared.status.Status.TheVariants as statuses
-use Rattle.iopmp_program.specs.declared.subcommand.Subcommand.{Subcommand}
-use Rattle.iopmp_program.specs.CommandTables.{reads}
+use Rattle.command_answers.specs.declared.status.Status.{Status}
+use Rattle.command_answers.specs.declared.status.Status.TheVariants as statuses
+use Rattle.command_answers.specs.declared.subcommand.Subcommand.{Subcommand}
+use Rattle.command_answers.specs.CommandTables.{reads}
 use Rattle.iopmp_program.specs.CallEndings.{Change, IsInputIf, IsText, GaveFew, GaveMore, EndsCommand, Ends, Completes, change}
 use Rattle.iopmp_program.proofs.Completeness.{completes}
 use Rattle.iopmp_mixed.specs.Aheads.{AheadView, left_of, handed_on, LooksAhead}

@@ -3,29 +3,28 @@ use Rattle.std.proofs.Common.{◌≡◌, ℕ, ◌⊎◌, false, List, Option, So
 use Rattle.std.specs.Prelude.{IsSomeAnd, ◌+◌, ◌++◌, codes}
 use Rattle.std.specs.Fmt.{decimal}
 use Rattle.script_reader.specs.Answers.{reading_of}
-use Rattle.iopmp_program.specs.declared.status.Status.{Status}
-use Rattle.iopmp_program.specs.declared.status.Status.TheVariants.{Done, Usage, BadInput, ReadFault, WriteFault, NoMemory, TooLong, NotLegal}
-use Rattle.iopmp_program.specs.declared.subcommand.Subcommand.{Subcommand}
-use Rattle.iopmp_program.specs.declared.subcommand.Subcommand.TheVariants.{Run, Compile, Plan, Live, Gen, Soak, Faults, Audit, Narrow, NarrowLive}
-use Rattle.iopmp_program.specs.declared.inputs.update.WhichPlan.TheVariants as plans
-use Rattle.iopmp_program.specs.RunCommand.{IsReport, IsRefusal}
-use Rattle.iopmp_program.specs.CompileCommand.{IsCompiled, IsNotCompiled}
-use Rattle.iopmp_program.specs.PlanCommand.{IsPlanned, IsNotPlanned}
-use Rattle.iopmp_program.specs.LiveCommand.{IsLiveReport, IsLiveRefusal}
+use Rattle.command_answers.specs.declared.status.Status.{Status}
+use Rattle.command_answers.specs.declared.status.Status.TheVariants.{Done, Usage, BadInput, ReadFault, WriteFault, NoMemory, TooLong, NotLegal}
+use Rattle.command_answers.specs.declared.subcommand.Subcommand.{Subcommand}
+use Rattle.command_answers.specs.declared.subcommand.Subcommand.TheVariants.{Run, Compile, Plan, Live, Gen, Soak, Faults, Audit, Narrow, NarrowLive}
+use Rattle.command_answers.specs.declared.inputs.update.WhichPlan.TheVariants as plans
+use Rattle.command_answers.specs.RunCommand.{IsReport, IsRefusal}
+use Rattle.command_answers.specs.CompileCommand.{IsCompiled, IsNotCompiled}
+use Rattle.command_answers.specs.PlanCommand.{IsPlanned, IsNotPlanned}
+use Rattle.command_answers.specs.LiveCommand.{IsLiveReport, IsLiveRefusal}
 use Rattle.script_generator.specs.GeneratedScripts.{generated_script}
-use Rattle.iopmp_program.specs.GenCommand.{generated_text}
-use Rattle.iopmp_program.specs.SoakCommand.{IsSoaked}
+use Rattle.command_answers.specs.GenCommand.{generated_text}
+use Rattle.command_answers.specs.SoakCommand.{IsSoaked}
 use Rattle.script_generator.specs.SoakHistories.{IsSoak}
 use Rattle.script_generator.specs.Summaries.{soak_text}
-use Rattle.iopmp_program.specs.FaultsCommand.{IsFaultsReport}
+use Rattle.command_answers.specs.FaultsCommand.{IsFaultsReport}
 use Rattle.audit_reader.specs.declared.answer.Audit.{Audit as Found}
 use Rattle.audit_reader.specs.declared.answer.Audit.TheVariants.{Legal, BadAt}
 use Rattle.audit_reader.specs.Audits.{Audits}
-use Rattle.iopmp_program.specs.AuditCommand.{CanBeAudited, Says, IsNotAudited}
-use Rattle.iopmp_program.specs.AnswerForms.{TextOf, ReportOf}
-use Rattle.iopmp_program.specs.CommandTables.{reads, Gives, IsRefused, IsAccepted}
+use Rattle.command_answers.specs.AuditCommand.{CanBeAudited, Says, IsNotAudited}
+use Rattle.command_answers.specs.AnswerForms.{TextOf, ReportOf}
+use Rattle.command_answers.specs.CommandTables.{reads, Gives, IsRefused}
 use Rattle.iopmp_program.specs.CallEndings.{Change, WasRead, WasWritten, PrefixWritten, IsInput, IsText, EndsCommand}
-use Rattle.iopmp_program.proofs.Accepted.{never_refused}
 
 -- ---- words
 
@@ -220,28 +219,3 @@ pub soak_reads_nothing : (number : ℕ) (source sink : Change) (status : Status)
     → (status ≡ Done) ⊎ (status ≡ WriteFault) ⊎ (status ≡ NoMemory)
 soak_reads_nothing number source sink status history e =
     reads_nothing (Soak number) source sink status history refl (λ bytes line never. never) (λ bytes told text given. let done = given.0 in absurd cc) e
-
--- ---- each command
-
--- An input that a command answers has none of its faults.
-pub given_accepted : (command : Subcommand) (bytes : List ℕ) (status : Status) (history : Option (List ℕ)) (text : List ℕ) → Gives command bytes status history text → IsAccepted command bytes
-given_accepted Run bytes status None text g = absurd g.1
-given_accepted Run bytes status (Some words) text g = (g.1.script, g.1.stands_for)
-given_accepted Compile bytes status history text g = record { policy = g.2.policy; stands_for = g.2.stands_for; is = g.2.is.fits }
-given_accepted Plan bytes status history text g = record { update = g.2.update; stands_for = g.2.stands_for; is = g.2.is.plans }
-given_accepted Live bytes status None text g = absurd g.1
-given_accepted Live bytes status (Some words) text g =
-    record { update = g.1.update; stands_for = g.1.stands_for; is = record { lanes = g.1.is.lanes; has = g.1.is.has; few = g.1.is.few } }
-given_accepted (Gen number) bytes status history text g = tt
-given_accepted (Soak number) bytes status history text g = tt
-given_accepted Faults bytes status None text g = absurd g.1
-given_accepted Faults bytes status (Some words) text g = (g.1.script, g.1.stands_for)
-given_accepted Audit bytes status history text g = g.input
-given_accepted Narrow bytes status history text g = record { update = g.2.update; stands_for = g.2.stands_for; is = g.2.is.plans }
-given_accepted NarrowLive bytes status None text g = absurd g.1
-given_accepted NarrowLive bytes status (Some words) text g =
-    record { update = g.1.update; stands_for = g.1.stands_for; is = record { lanes = g.1.is.lanes; has = g.1.is.has; few = g.1.is.few } }
-
--- The causes of a refusal are exact: where one holds of the bytes, they give no text.
-pub refused_gives_nothing : (command : Subcommand) (bytes line : List ℕ) (status : Status) (history : Option (List ℕ)) (text : List ℕ) → IsRefused command bytes line → Gives command bytes status history text → ⊥
-refused_gives_nothing command bytes line status history text r g = never_refused command bytes line (given_accepted command bytes status history text g) r

@@ -1,14 +1,14 @@
 -- Completeness follows from what each status says.
 use Rattle.std.proofs.Common.{◌≡◌, ℕ, ◌<◌, ◌≤◌, ◌⊎◌, Bool, true, false, List, length, Option, Some, None, IfSome, refl, ap, subst, inl, inr, ◌∙◌, length-append, arith}
 use Rattle.std.specs.Io.KnownBytes.{Consumes}
-use Rattle.iopmp_program.specs.declared.status.Status.{Status}
-use Rattle.iopmp_program.specs.declared.status.Status.TheVariants as statuses
-use Rattle.iopmp_program.specs.declared.subcommand.Subcommand.{Subcommand}
-use Rattle.iopmp_program.specs.declared.subcommand.Subcommand.TheVariants.{Run, Compile, Plan, Live, Gen, Soak, Faults, Audit, Narrow, NarrowLive}
-use Rattle.iopmp_program.specs.CommandTables.{reads, Gives, IsRefused}
+use Rattle.command_answers.specs.declared.status.Status.{Status}
+use Rattle.command_answers.specs.declared.status.Status.TheVariants as statuses
+use Rattle.command_answers.specs.declared.subcommand.Subcommand.{Subcommand}
+use Rattle.command_answers.specs.declared.subcommand.Subcommand.TheVariants.{Run, Compile, Plan, Live, Gen, Soak, Faults, Audit, Narrow, NarrowLive}
+use Rattle.command_answers.specs.CommandTables.{reads, Gives, IsRefused}
 use Rattle.iopmp_program.specs.CallEndings.{Change, Failed, WasRead, IsFault, EndsCommand, HasAccepted, IsSoundIf, IsSound, IsGood, Completes}
-use Rattle.iopmp_program.proofs.Accepted.{never_refused}
-use Rattle.iopmp_program.proofs.GivenStatuses.{given_status}
+use Rattle.command_answers.proofs.Accepted.{never_refused}
+use Rattle.command_answers.proofs.GivenStatuses.{given_status}
 
 read_is : (left : Option (List ℕ)) (bytes bs : List ℕ) → left ≡ Some bytes → IfSome left (λ xs. bs ≡ xs) → bs ≡ bytes
 read_is None bytes bs e h = cc

@@ -1,9 +1,3 @@
-pub mod ToldCodes
-pub mod UpdateRefusals
-pub mod ScriptsBeside
-pub mod CommandAnswers
-pub mod Accepted
-pub mod GivenStatuses
+pub mod WrittenAnswers
 pub mod Completeness
 pub mod CommandLaws
-pub mod ReadBack

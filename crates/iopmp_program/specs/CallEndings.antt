@@ -5,12 +5,12 @@ use Rattle.std.specs.declared.option.Option.{Option}
 use Rattle.std.specs.Io.KnownBytes.{Appends, IsAtEnd}
 use Rattle.edge_io.specs.Faults.{Rose}
 use Rattle.edge_io.specs.Streams.{TakesFront, AppendsPrefix}
-use Rattle.iopmp_program.specs.declared.status.Status.{Status}
-use Rattle.iopmp_program.specs.declared.status.Status.TheVariants.{Done, Usage, BadInput, ReadFault, WriteFault, NoMemory, TooLong, NotLegal}
-use Rattle.iopmp_program.specs.declared.subcommand.Subcommand.{Subcommand}
-use Rattle.iopmp_program.specs.declared.subcommand.Subcommand.TheVariants.{Audit}
+use Rattle.command_answers.specs.declared.status.Status.{Status}
+use Rattle.command_answers.specs.declared.status.Status.TheVariants.{Done, Usage, BadInput, ReadFault, WriteFault, NoMemory, TooLong, NotLegal}
+use Rattle.command_answers.specs.declared.subcommand.Subcommand.{Subcommand}
+use Rattle.command_answers.specs.declared.subcommand.Subcommand.TheVariants.{Audit}
 use Rattle.iopmp_program.specs.FaultLines.{usage_line, too_long_line}
-use Rattle.iopmp_program.specs.CommandTables.{reads, Gives, IsRefused, IsAccepted}
+use Rattle.command_answers.specs.CommandTables.{reads, Gives, IsRefused, IsAccepted}
 
 -- ---- what a stream shows of a call
 

@@ -1,22 +1,5 @@
--- What a call of the program gives: how it is asked, what each command answers, and how it ends.
-pub mod StatusCodes
+-- What a call of the program gives: which words are a command, and how it ends.
 pub mod CommandWords
 pub mod FaultLines
-pub mod AnswerForms
-pub mod RunCommand
-pub mod FaultsCommand
-pub mod PolicyLines
-pub mod CompileCommand
-pub mod PlanLines
-pub mod UpdateInputs
-pub mod UpdatePlans
-pub mod PlanCommand
-pub mod PlansBeside
-pub mod LiveCommand
-pub mod UpdateScripts
-pub mod GenCommand
-pub mod SoakCommand
-pub mod AuditCommand
-pub mod CommandTables
 pub mod CallEndings
 pub mod StreamEdges

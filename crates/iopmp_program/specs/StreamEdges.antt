@@ -4,10 +4,10 @@ use Rattle.std.specs.declared.option.Option.{Option}
 use Rattle.std.specs.declared.alloc.Global.{Global}
 use Rattle.edge_io.specs.declared.whole.ReadError.{ReadError}
 use Rattle.edge_io.specs.declared.whole.ReadError.TheVariants.{Fault, TooLong, NoMemory}
-use Rattle.iopmp_program.specs.declared.status.Status.{Status}
-use Rattle.iopmp_program.specs.declared.status.Status.TheVariants.{WriteFault}
-use Rattle.iopmp_program.specs.declared.subcommand.Subcommand.{Subcommand}
-use Rattle.iopmp_program.specs.CommandTables.{reads}
+use Rattle.command_answers.specs.declared.status.Status.{Status}
+use Rattle.command_answers.specs.declared.status.Status.TheVariants.{WriteFault}
+use Rattle.command_answers.specs.declared.subcommand.Subcommand.{Subcommand}
+use Rattle.command_answers.specs.CommandTables.{reads}
 use Rattle.iopmp_program.specs.CallEndings.{Change, Failed, WasWritten, PrefixWritten, IsInput, GaveFew, GaveMore}
 
 -- a command's input

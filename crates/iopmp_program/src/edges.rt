@@ -1,11 +1,11 @@
 // The two edges of a call: all of the input is read before anything is answered, and then one text is written.
 ghost use Rattle.std.specs.Prelude.{◌≡◌, false, None};
-ghost use Rattle.iopmp_program.specs.CommandTables.{reads};
+ghost use Rattle.command_answers.specs.CommandTables.{reads};
 ghost use Rattle.iopmp_program.specs.CallEndings.{change};
 ghost use Rattle.iopmp_program.specs.StreamEdges.{Reads, WritesOrStops};
 
-use crate::status::{Outcome, Status};
-use crate::subcommand::Subcommand;
+use crate::outcome::Outcome;
+use command_answers::{Status, Subcommand};
 use edge_io::{ReadError, Sink, Source, read_all, write_all};
 use shared_log::History;
 use std::alloc::Global;

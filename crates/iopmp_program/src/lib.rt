@@ -1,22 +1,19 @@
 //! The program: its words are a command, whose input is read, answered and written.
 //!
-//! The definitions of what the program answers stand in `specs/`, one file an idea.
+//! What a command answers is `command_answers`'. The definitions of how a call ends stand in `specs/`, one file an
+//! idea.
 #![tactic(auto)]
 
-mod answer;
-mod commands;
 mod edges;
-mod images;
-mod inputs;
-mod playing;
+mod fault_lines;
+mod outcome;
 mod program;
-mod refusals;
-mod status;
-mod subcommand;
 #[cfg(test)]
 mod tests;
+mod words;
 
+pub use command_answers::Status;
 pub use history_reports::report;
+pub use outcome::Outcome;
 pub use program::top;
 pub use script_player::{NoMemory, play};
-pub use status::{Outcome, Status};

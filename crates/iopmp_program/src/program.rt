@@ -2,16 +2,15 @@
 ghost use Rattle.std.specs.Prelude.{◌≡◌, map, false, Some};
 ghost use Rattle.std.specs.String.{string_bytes};
 ghost use Rattle.iopmp_program.specs.CommandWords.{command_of};
-ghost use Rattle.iopmp_program.specs.CommandTables.{reads};
+ghost use Rattle.command_answers.specs.CommandTables.{reads};
 ghost use Rattle.iopmp_program.specs.CallEndings.{change, Ends, EndsCommand, Completes, LeavesSource, LeavesSink};
 
-use crate::answer::{Answer, NoAnswer};
-use crate::commands::answer;
 use crate::edges::{read_input, without_history, write_answer};
-use crate::refusals::fault_line::{too_long_line, usage_line};
-use crate::status::{Outcome, Status};
-use crate::subcommand::{Subcommand, command_in};
+use crate::fault_lines::{too_long_line, usage_line};
+use crate::outcome::Outcome;
+use crate::words::command_in;
 use checker_workers::Gate;
+use command_answers::{Answer, NoAnswer, Status, Subcommand, answer};
 use edge_io::{ReadError, Sink, Source};
 use std::alloc::Global;
 use std::thread::Threads;

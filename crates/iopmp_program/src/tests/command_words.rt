@@ -1,6 +1,7 @@
 // Which words are a command.
-use crate::subcommand::{Subcommand, command_in};
 use crate::tests::split_words;
+use crate::words::command_in;
+use command_answers::Subcommand;
 use std::test::Fail;
 
 /// Words, and the command that they are, if they are one.

@@ -1,8 +1,8 @@
 -- The answer is written, or a prefix of it.
 use Rattle.std.proofs.Common.{sym, subst}
-use Rattle.iopmp_program.specs.CommandTables.{Gives}
+use Rattle.command_answers.specs.CommandTables.{Gives}
 use Rattle.iopmp_program.specs.CallEndings.{change, IsInput}
-use Rattle.iopmp_program.proofs.GivenStatuses.{ends_given, leaves_none}
+use Rattle.iopmp_program.proofs.WrittenAnswers.{ends_given, leaves_none}
 use Rattle.iopmp_program.proofs.program.call_command.Goals as goal
 
 pub returns-clause-ends : goal.returns-clause-ends

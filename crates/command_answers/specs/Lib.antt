@@ -1,0 +1,19 @@
+-- What each command answers: its texts, its refusals, and the inputs that it accepts.
+pub mod StatusCodes
+pub mod ScriptLines
+pub mod AnswerForms
+pub mod RunCommand
+pub mod FaultsCommand
+pub mod PolicyLines
+pub mod CompileCommand
+pub mod PlanLines
+pub mod UpdateInputs
+pub mod UpdatePlans
+pub mod PlanCommand
+pub mod PlansBeside
+pub mod LiveCommand
+pub mod UpdateScripts
+pub mod GenCommand
+pub mod SoakCommand
+pub mod AuditCommand
+pub mod CommandTables
