@@ -1,8 +1,9 @@
 -- What words stand for, as one of them changes or a wide submission is added.
-use Rattle.std.proofs.Common.{◌≡◌, ℕ, suc, zero, ◌+◌, ◌-◌, ◌^◌, ◌/◌, ◌%◌, ◌<◌, ◌≤◌, ◌==◌, ◌&&◌, true, false, cond, leb, List, [], ◌∷◌, ◌++◌, length, map, get_or, set, Some, None, refl, ap, sym, subst, ◌∙◌, inl, inr, arith}
-use Rattle.std.specs.Prelude.{IfSome, Option, option_map, option_and_then, if◌then◌else◌}
+use Rattle.std.proofs.Common.{◌≡◌, ℕ, suc, zero, ◌+◌, ◌-◌, ◌*◌, ◌^◌, ◌/◌, ◌%◌, ◌<◌, ◌≤◌, ◌==◌, ◌&&◌, true, false, cond, leb, List, [], ◌∷◌, ◌++◌, length, map, get_or, set, Some, None, refl, ap, sym, subst, ◌∙◌, inl, inr, arith}
+use Rattle.std.specs.Prelude.{nat_lt, IfSome, Option, option_map, option_and_then, if◌then◌else◌}
 use Rattle.std.specs.List.{AllByRecursion}
 use Rattle.std.proofs.lemmas.Bool.Decides.{nat_tests, eqb_tells}
+use Rattle.std.proofs.Math.Bool.{and-false}
 use Rattle.std.proofs.lemmas.List.{map-set, get_or_push, get_or_append_left, get_or-map}
 use Rattle.event_words.specs.Valid.{IsValidAccess}
 use Rattle.event_words.specs.declared.access.Access.{Access}
@@ -14,7 +15,7 @@ use Rattle.event_words.proofs.Cases.{by_test}
 use Rattle.unit_core.specs.declared.kept.Kept.{Kept}
 use Rattle.unit_core.specs.Submissions.{SubmittedAccess}
 use Rattle.unit_core.specs.Places.{nothing_kept, submission_in, IsKept, access_of}
-use Rattle.unit_core.specs.KeptWords.{kept_of_event, is_submit, is_submit_word, wide_at, kept_by, stands, Stands}
+use Rattle.unit_core.specs.KeptWords.{kept_of_event, is_submit, is_submit_of, is_submit_word, wide_at, kept_by, stands, Stands}
 
 -- ---- one word changes
 
@@ -143,3 +144,26 @@ requester_by u c unit caller rrid kept h =
     rw (h.is_open, h.unit, h.caller) (by_test ((unit == u) && (caller == c)) _
     (λ t. rw t (ap Some h.rrid))
     (λ f. rw f refl))
+
+-- ---- the test of a Submit's word
+
+pub submit_test : (word u c : ℕ) → (nat_lt u 4 && (nat_lt c 32 && (word / 2 ^ 54 == 384 + c * 4 + u))) ≡ is_submit_of word u c
+submit_test word u c = elim (eqb_tells (word / 2 ^ 54) (384 + c * 4 + u)) [
+  | inl t ↦ (let e : word / 2 ^ 54 ≡ 384 + c * 4 + u = t.1 in
+      by_test (nat_lt u 4) _
+      (λ a. by_test (nat_lt c 32) _
+      (λ b. let h : u < 4 = grind (arith, nat_tests) in
+      let i : c < 32 = grind (arith, nat_tests) in
+      rw (a, b, t.0, test_same (word / 2 ^ 61) 3 (omega (arith, e, h, i)), test_same (word / 2 ^ 54 % 4) u (omega (arith, e, h, i)), test_same (word / 2 ^ 56 % 32) c (omega (arith, e, h, i))) refl)
+      (λ b. let i : 32 ≤ c = grind (arith, nat_tests) in
+      rw (a, b, test_other (word / 2 ^ 56 % 32) c (λ x. omega (arith, x, i)), and-false (word / 2 ^ 61 == 3 && word / 2 ^ 54 % 4 == u)) refl))
+      (λ a. let h : 4 ≤ u = grind (arith, nat_tests) in
+      rw (a, test_other (word / 2 ^ 54 % 4) u (λ x. omega (arith, x, h)), and-false (word / 2 ^ 61 == 3)) refl))
+  | inr f ↦ (by_test (word / 2 ^ 61 == 3) _
+      (λ k. by_test (word / 2 ^ 54 % 4 == u) _
+      (λ a. by_test (word / 2 ^ 56 % 32 == c) _
+      (λ b. absurd (f.1 (grind (arith, nat_tests))))
+      (λ b. rw (f.0, k, a, b, and-false (nat_lt c 32), and-false (nat_lt u 4)) refl))
+      (λ a. rw (f.0, k, a, and-false (nat_lt c 32), and-false (nat_lt u 4)) refl))
+      (λ k. rw (f.0, k, and-false (nat_lt c 32), and-false (nat_lt u 4)) refl))
+]

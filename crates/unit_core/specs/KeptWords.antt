@@ -1,5 +1,5 @@
 -- What is kept of events in words: a word says all of a submission that is no wide one, and the number of one that is.
-use Rattle.std.specs.Prelude.{◌≡◌, ℕ, ◌+◌, ◌-◌, ◌^◌, ◌/◌, ◌≤◌, ◌==◌, nat_le, Bool, true, false, List, Option, Some, if◌then◌else◌, length, map, slice_index_or}
+use Rattle.std.specs.Prelude.{◌≡◌, ℕ, ◌+◌, ◌-◌, ◌^◌, ◌/◌, ◌%◌, ◌≤◌, ◌==◌, ◌&&◌, nat_le, Bool, true, false, List, Option, Some, if◌then◌else◌, length, map, slice_index_or}
 use Rattle.std.specs.List.{AllByRecursion}
 use Rattle.event_words.specs.declared.access.Access.{Access}
 use Rattle.event_words.specs.declared.event.Event.{Event}
@@ -32,6 +32,11 @@ is_submit _ = false
 -- It is the word of a submission that is no wide one.
 abbrev pub is_submit_word : ℕ → Bool
 is_submit_word word = is_submit (event_of_word word)
+
+-- It is of the kind of a Submit, to this unit by this caller.
+abbrev pub is_submit_of : ℕ → ℕ → ℕ → Bool
+is_submit_of word unit caller =
+    word / 2 ^ 61 == 3 && word / 2 ^ 54 % 4 == unit && word / 2 ^ 56 % 32 == caller
 
 -- what the number of a wide submission stands for, which counts from 1
 abbrev pub wide_at : List Kept → ℕ → Kept

@@ -5,7 +5,7 @@ ghost use Rattle.event_words.specs.Valid.{IsValidAccess};
 ghost use Rattle.event_words.specs.Word.{event_of_word};
 ghost use Rattle.event_words.specs.declared.event.Event.TheVariants.{Submit};
 ghost use Rattle.unit_core.specs.Places.{access_of, open_access, submission_in, nothing_kept, IsKept};
-ghost use Rattle.unit_core.specs.KeptWords.{kept_of, kept_of_event, wide_at, is_submit_word, HasRoom, KeepsRoom, IsWordOf};
+ghost use Rattle.unit_core.specs.KeptWords.{kept_of, kept_of_event, wide_at, is_submit_of, is_submit_word, HasRoom, KeepsRoom, IsWordOf};
 
 use crate::NoMemory;
 use event_words::{Access, Kind, SUBMIT_KIND, SubmitWord, unpack_submit};
@@ -54,20 +54,14 @@ fn said_by(word: u64) -> SubmitWord
     }
 }
 
-/// The unit of a word, its bits 55:54.
+/// Whether it is the word of a Submit to this unit by this caller: its bits 63:61 are the kind, 60:56 the caller and 55:54
+/// the unit.
 #[inline(always)]
-fn unit_at(word: u64) -> u8
-    ensures { result ≡ word / 2 ^ 54 % 4 }
+#[tactic(auto, using(crate::proofs::KeptWords::submit_test))]
+fn is_submit_of(word: u64, unit: u8, caller: u8) -> bool
+    ensures { result ≡ is_submit_of word unit caller }
 {
-    (word >> 54 & 3) as u8
-}
-
-/// The caller of a word, its bits 60:56.
-#[inline(always)]
-fn caller_at(word: u64) -> u8
-    ensures { result ≡ word / 2 ^ 56 % 32 }
-{
-    (word >> 56 & 31) as u8
+    unit < 4 && caller < 32 && word >> 54 == (SUBMIT_KIND << 7) + caller as u64 * 4 + unit as u64
 }
 
 /// The requester of the word of a Submit, its bits 53:48.
@@ -76,21 +70,6 @@ fn requester_at(word: u64) -> u8
     ensures { result ≡ word % 2 ^ 54 / 2 ^ 48 }
 {
     (word >> 48 & 63) as u8
-}
-
-/// The requester of the word of a Submit, where it is of this unit and this caller.
-#[inline(always)]
-fn requester_in(word: u64, unit: u8, caller: u8) -> Option<u8>
-    requires kind { word / 2 ^ 61 ≡ 3 }
-    requires submit { is_submit_word word ≡ true }
-    ensures { result ≡ option_map (λ access. access.rrid)
-        (access_of unit caller (submission_in (kept_of_event (event_of_word word)))) }
-{
-    if unit_at(word) == unit && caller_at(word) == caller {
-        Some(requester_at(word))
-    } else {
-        None
-    }
 }
 
 /// The requester of the wide submission of a number, as `wide_access` has it.
@@ -237,25 +216,30 @@ impl KeptEvents {
             return None;
         }
         let word = self.words[place as usize];
-        if word >> 61 != SUBMIT_KIND {
-            return wide_requester(self.wide.as_slice(), word, unit, caller);
+        if is_submit_of(word, unit, caller) {
+            Some(requester_at(word))
+        } else if word >> 61 == SUBMIT_KIND {
+            None
+        } else {
+            wide_requester(self.wide.as_slice(), word, unit, caller)
         }
-        requester_in(word, unit, caller)
     }
 
-    /// The same, but it may be that none is found where the submission is a wide one.
+    /// The same, by the words alone: none is found where the submission is a wide one.
     #[inline(always)]
     pub fn narrow_requester(&self, unit: u8, caller: u8, place: u32) -> Option<u8>
         ensures value { IfSome result (λ rrid. option_map (λ access. access.rrid)
             (open_access self.now.items unit caller place) ≡ Some rrid) }
+        ensures all { self.now.wides ≡ 0 → result ≡ option_map (λ access. access.rrid)
+            (open_access self.now.items unit caller place) }
         ensures inside { OnSome result (place < length self.now.items) }
     {
         if place as usize >= self.words.len() {
             return None;
         }
         let word = self.words[place as usize];
-        if word >> 61 == SUBMIT_KIND {
-            requester_in(word, unit, caller)
+        if is_submit_of(word, unit, caller) {
+            Some(requester_at(word))
         } else {
             None
         }

@@ -22,8 +22,8 @@ pub fn write_on(units: &mut [IopmpUnit], unit: u8, index: u32, value: u32, asked
     requires { AllByRecursion CanWrite units.old }
     ensures taken { (kept : List Kept) (place caller : ℕ) → AllAgree 0 units.old kept →
         IsTaken place (RegWrite unit caller index value) units.old units.new kept kept }
-    ensures reply { asked ≡ true → (kept : List Kept) (place caller : ℕ) → AllAgree 0 units.old kept →
-        result ≡ (taken_step place
+    ensures reply { asked ≡ true → (kept : List Kept) (place caller : ℕ) →
+        AllAgree 0 units.old kept → result ≡ (taken_step place
         (states_of 0 units.old kept) (Some (RegWrite unit caller index value))).1 }
 {
     let at = unit as usize;
@@ -162,7 +162,6 @@ pub fn step(
     kept: &mut KeptEvents,
     place: u32,
     event: Event,
-    asked: bool,
 ) -> Reply
     requires ready { MayStep place units.old kept.old.items }
     requires room { HasRoom place kept.old }
@@ -173,8 +172,8 @@ pub fn step(
     ensures all_valid { AllByRecursion IsKept kept.new.items }
     ensures state { states_of 0 units.new kept.new.items
         ≡ (event_step place aims.old (states_of 0 units.old kept.old.items) event).0 }
-    ensures reply { asked ≡ true →
-        result ≡ (event_step place aims.old (states_of 0 units.old kept.old.items) event).1 }
+    ensures reply { result
+        ≡ (event_step place aims.old (states_of 0 units.old kept.old.items) event).1 }
     ensures aims { aims.new ≡ aims_after aims.old event }
 {
     match event {
@@ -183,7 +182,7 @@ pub fn step(
             index,
             value,
             ..
-        } => write_on(units, unit, index, value, asked),
+        } => write_on(units, unit, index, value, true),
         Event::RegRead { unit, index, .. } => read_on(units, unit, index),
         Event::Submit {
             unit,

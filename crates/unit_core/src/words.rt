@@ -25,7 +25,8 @@ fn write_word(units: &mut [IopmpUnit], word: u64, asked: bool) -> Reply
     requires may { AllByRecursion CanWrite units.old }
     requires kind { word / 2 ^ 61 ≡ 1 }
     ensures taken { (place : ℕ) (aims : List ℕ) (kept : List Kept) → AllAgree 0 units.old kept →
-        AllByRecursion IsKept kept → IsWordTaken place word units.old units.new aims aims kept kept }
+        AllByRecursion IsKept kept →
+        IsWordTaken place word units.old units.new aims aims kept kept }
     ensures reply { asked ≡ true → (place : ℕ) (aims : List ℕ) (kept : List Kept) →
         AllAgree 0 units.old kept → result ≡ (word_step place
         (record { units = states_of 0 units.old kept; aims = aims }) word).1 }
@@ -120,7 +121,6 @@ fn any_word(
     units: &mut [IopmpUnit],
     aims: &mut [u64],
     kept: &mut KeptEvents,
-    asked: bool,
 ) -> Reply
     requires ready { MayStep place units.old kept.old.items }
     requires room { HasRoom place kept.old }
@@ -128,12 +128,12 @@ fn any_word(
     ensures keeps { KeepsRoom 1 kept.old kept.new }
     ensures taken { IsWordTaken place word
         units.old units.new aims.old aims.new kept.old.items kept.new.items }
-    ensures reply { asked ≡ true → result ≡ (word_step place
+    ensures reply { result ≡ (word_step place
         (record { units = states_of 0 units.old kept.old.items; aims = aims.old }) word).1 }
 {
     match unpack(word) {
         None => Reply::NoSuch,
-        Some(event) => step(units, aims, kept, place, event, asked),
+        Some(event) => step(units, aims, kept, place, event),
     }
 }
 
@@ -167,6 +167,6 @@ pub fn step_word(
             Reply::NoSuch
         }
         READ_KIND => read_word(units, word, asked),
-        _ => any_word(place, word, units, aims, kept, asked),
+        _ => any_word(place, word, units, aims, kept),
     }
 }

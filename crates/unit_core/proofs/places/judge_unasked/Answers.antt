@@ -9,5 +9,5 @@ leave-requires c =
 
 pub returns-in-Some-clause-judged : goal.returns-in-Some-clause-judged
 returns-in-Some-clause-judged c =
-    judged_unasked c.args.number c.args.place c.args.caller c.in-Some.rrid c.args.unit.now c.leave.new.unit c.args.kept.now.items c.clear.new.self.items c.in-Some.ensures.value (sym c.is_recorded.ensures ∙ c.if-is_recorded.true) c.clear.ensures.items c.leave.ensures
+    judged_unasked c.args.number c.args.place c.args.caller c.in-Some.rrid c.args.unit.now c.leave.new.unit c.args.kept.now.items c.clear.new.self.items c.in-Some.ensures.value (sym c.is_recorded.ensures ∙ c.if-not-is_recorded.false) c.clear.ensures.items c.leave.ensures
     c.requires.all_valid c.requires.agrees (none_queued c.args.place c.args.unit.now.queue.items (sym c.if-len-eq0.true ∙ c.len.ensures.value))

@@ -1,7 +1,7 @@
 use Rattle.std.proofs.Common.{sym, ◌∙◌}
 use Rattle.unit_core.proofs.Judges.{none_open, counted_open, held_open, judged_none, judged_unasked}
 use Rattle.unit_core.specs.Places.{open_access}
-use Rattle.unit_core.proofs.places.judge_any_unasked.Goals as goal
+use Rattle.unit_core.proofs.places.judge_recorded.Goals as goal
 
 pub leave-requires : goal.leave-requires
 leave-requires c =
@@ -18,5 +18,5 @@ returns-then-holds-clause-judged c =
 
 pub returns-clause-judged : goal.returns-clause-judged
 returns-clause-judged c =
-    judged_unasked c.args.number c.args.place c.args.caller c.in-Some.rrid c.args.unit.now c.leave.new.unit c.args.kept.now.items c.clear.new.self.items (sym c.open_requester.ensures.value ∙ c.in-Some.is) (sym c.is_recorded.ensures ∙ c.if-not-is_recorded.false) c.clear.ensures.items c.leave.ensures
+    judged_unasked c.args.number c.args.place c.args.caller c.in-Some.rrid c.args.unit.now c.leave.new.unit c.args.kept.now.items c.clear.new.self.items (sym c.open_requester.ensures.value ∙ c.in-Some.is) c.requires.recorded c.clear.ensures.items c.leave.ensures
     c.requires.all_valid c.requires.agrees (sym c.holds.ensures ∙ c.if-holds.false)
