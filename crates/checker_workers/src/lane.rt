@@ -152,7 +152,7 @@ fn play_commands<G: Gate>(
 {
     let first = port.left();
     for command in commands {
-        if !play_command(port, table, shared, gate, first, *command) {
+        if !play_command(port, table, shared, gate, first, command) {
             tell(gate, port, first);
             return LaneEnd::Stopped;
         }

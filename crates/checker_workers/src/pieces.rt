@@ -201,23 +201,23 @@ pub(crate) fn play_command<G: Gate>(
     shared: &Shared,
     gate: &G,
     first: u32,
-    command: Command,
+    command: &Command,
 ) -> bool
     requires belongs { Belongs port.old shared.now }
-    requires left { most_events command ≤ port.old.left }
+    requires left { most_events command.now ≤ port.old.left }
     requires first { port.old.left ≤ first }
     requires rests { RestsSince first port.old }
-    requires valid { IsValidCommand (vec_len table.old) command }
-    requires units { NamesUnits (unit_count port.old) command }
-    requires room { is_submit command ≡ true → vec_len table.old < vec_capacity table.old }
+    requires valid { IsValidCommand (vec_len table.old) command.now }
+    requires units { NamesUnits (unit_count port.old) command.now }
+    requires room { is_submit command.now ≡ true → vec_len table.old < vec_capacity table.old }
     requires tickets { IsTicketTable port.old table.old.items }
-    ensures plays { PlaysCommand port.old table.old.items command port.new table.new.items
+    ensures plays { PlaysCommand port.old table.old.items command.now port.new table.new.items
         (not result) }
-    ensures count { vec_len table.new ≡ (if is_submit command then vec_len table.old + 1 else
+    ensures count { vec_len table.new ≡ (if is_submit command.now then vec_len table.old + 1 else
         vec_len table.old) }
     ensures capacity { vec_capacity table.new ≡ vec_capacity table.old }
 {
-    match command {
+    match *command {
         Command::Write { unit, index, value } => {
             tell(gate, port, first);
             port.write(shared, unit, index, value);

@@ -19,7 +19,7 @@ returns-in-Read-clause-plays g c =
 
 pub returns-in-Submit-clause-plays : goal.returns-in-Submit-clause-plays
 returns-in-Submit-clause-plays g c =
-    plays_submit_as c.args.port.now c.submit.new.port c.args.table.now.items c.push_reserved.new.self.items c.in-Submit.unit c.in-Submit.slot c.in-Submit.access c.submit.result c.args.command c.in-Submit.is
+    plays_submit_as c.args.port.now c.submit.new.port c.args.table.now.items c.push_reserved.new.self.items c.in-Submit.unit c.in-Submit.slot c.in-Submit.access c.submit.result c.args.command.now c.in-Submit.is
     (rw (← c.ticket_of-slot.ensures) c.push_reserved.ensures.items) c.submit.ensures.event c.requires.units c.submit.ensures.ticket c.requires.tickets
 
 pub returns-in-Until-clause-plays : goal.returns-in-Until-clause-plays
@@ -31,6 +31,6 @@ returns-in-Until-clause-plays g c =
 
 pub returns-in-Through-clause-plays : goal.returns-in-Through-clause-plays
 returns-in-Through-clause-plays g c =
-    subst (λ (goes : Bool). PlaysCommand c.args.port.now c.args.table.now.items c.args.command c.send_through.new.self c.args.table.now.items (not goes)) (sym c.goes_on.ensures)
+    subst (λ (goes : Bool). PlaysCommand c.args.port.now c.args.table.now.items c.args.command.now c.send_through.new.self c.args.table.now.items (not goes)) (sym c.goes_on.ensures)
     (subst (λ (k : Command). PlaysCommand c.args.port.now c.args.table.now.items k c.send_through.new.self c.args.table.now.items false) (sym c.in-Through.is)
     (plays_through c.args.port.now c.send_through.new.self c.args.table.now.items c.in-Through.stages c.in-Through.access c.in-Through.max c.send_through.result c.send_through.ensures c.requires.tickets))
