@@ -52,10 +52,12 @@ pub fn mixed<R: Threads + Clock + Sync, S: Source, K: Sink>(
 ) -> MixedRun
     // as without a seed: by the words, what the source gave, and what the sink took
     ensures ends { Ends (command_of (map string_bytes words.now))
-        (change (left_of S.left) handed_on source.old source.new) (change K.taken K.faults sink.old sink.new)
+        (change (left_of S.left) handed_on source.old source.new)
+        (change K.taken K.faults sink.old sink.new)
         result.outcome.status result.outcome.history }
     ensures completes { Completes (command_of (map string_bytes words.now))
-        (change (left_of S.left) handed_on source.old source.new) (change K.taken K.faults sink.old sink.new)
+        (change (left_of S.left) handed_on source.old source.new)
+        (change K.taken K.faults sink.old sink.new)
         result.outcome.status }
     ensures unread { LeavesSource (command_of (map string_bytes words.now)) → source.new
         ≡ source.old }

@@ -31,7 +31,12 @@ impl Model for Turns {
       gone = t.gone;
     } };
 
-    ghost inverse = { λ t. record { lanes = t.lanes; given = t.given; holder = t.holder; gone = t.gone } };
+    ghost inverse = { λ t. record {
+      lanes = t.lanes;
+      given = t.given;
+      holder = t.holder;
+      gone = t.gone;
+    } };
 
     ghost invariant = { λ t. AreTurns t.given t.holder };
 }
