@@ -7,7 +7,7 @@ use Rattle.event_words.specs.declared.record.SectionEnd.{SectionEnd}
 use Rattle.event_words.specs.declared.section.Command.{Command}
 use Rattle.event_words.specs.Events.{same_event}
 use Rattle.event_words.specs.Sections.{stage_units}
-use Rattle.event_words.specs.Records.{OpenSlot, judgements, polls, stage_judged, one_stage, settled, until_piece, through_piece, through_stages, after_piece, end_of_commands, is_held, hits, closed_by}
+use Rattle.event_words.specs.Records.{OpenSlot, judgements, polls, stage_judged, one_stage, settled, until_piece, through_piece, through_stages, after_piece, end_of_commands, is_held, hits}
 use Rattle.section_cursor.specs.declared.ahead.Chain.{Chain}
 use Rattle.section_cursor.specs.declared.ahead.Ahead.{Ahead}
 use Rattle.section_cursor.specs.declared.ahead.Part.{Part}
@@ -19,10 +19,6 @@ use Rattle.section_cursor.specs.Cursors.{end_of_rest, end_after, stages_on}
 refused : {A B : Type 0} (C : Option A → Option B) → C None ≡ None → (b : Bool) (y : Option A) → (if b then C y else None) ≡ C (if not b then None else y)
 refused C none true y = refl
 refused C none false y = sym none
-
-taken : {A B : Type 0} (C : Option A → Option B) → C None ≡ None → (b : Bool) (y : A) → (if b then C (Some y) else None) ≡ C (if b then Some y else None)
-taken C none true y = refl
-taken C none false y = sym none
 
 -- what comes next with some tries: the first of them, or nothing where there is none
 pub first_of_tries : (F : Ahead → Option SectionEnd) (whole : ℕ → Option SectionEnd) (part : ℕ → Part) (event : Event) (tries left : ℕ) (ahead : Ahead)
@@ -99,26 +95,6 @@ stage_judging_again caller cs slots e left tries chain x xs t h =
     stage_judging_first caller cs slots e tries left chain xs t
     ∙ ap (λ (b : Bool). after_piece (end_of_commands caller cs) (through_piece slots (stage_judged (stages_on caller chain) (if b then judgements tries e xs else Some (x.reply, xs)))))
     (sym (left_to_try (is_held x.reply) left tries t h))
-
--- after the last of several tries
-
-pub judged_last : (caller : ℕ) (cs : List Command) (slots : List (Option OpenSlot)) (slot : ℕ) (e : Event) (left : ℕ) (x : LoggedEvent) (xs : List LoggedEvent)
-    → (is_held x.reply && nat_lt 0 left) ≡ false
-    → end_of_commands caller cs (closed_by x.reply slot slots) xs ≡ end_after caller cs slots e (Judging slot left) x xs
-judged_last caller cs slots slot e left x xs h =
-    ap (λ (b : Bool). after_piece (end_of_commands caller cs) (settled slots slot (if b then judgements left e xs else Some (x.reply, xs)))) (sym h)
-
-pub polled_last : (caller : ℕ) (cs : List Command) (slots : List (Option OpenSlot)) (e : Event) (mask value left : ℕ) (x : LoggedEvent) (xs : List LoggedEvent)
-    → (not (hits mask value x.reply) && nat_lt 0 left) ≡ false
-    → after_piece (end_of_commands caller cs) (until_piece slots (Some (hits mask value x.reply, xs))) ≡ end_after caller cs slots e (Polling mask value left) x xs
-polled_last caller cs slots e mask value left x xs h =
-    ap (λ (b : Bool). after_piece (end_of_commands caller cs) (until_piece slots (if b then polls left e mask value xs else Some (hits mask value x.reply, xs)))) (sym h)
-
-pub stage_judged_last : (caller : ℕ) (cs : List Command) (slots : List (Option OpenSlot)) (e : Event) (left : ℕ) (chain : Chain) (x : LoggedEvent) (xs : List LoggedEvent)
-    → (is_held x.reply && nat_lt 0 left) ≡ false
-    → after_piece (end_of_commands caller cs) (through_piece slots (stage_judged (stages_on caller chain) (Some (x.reply, xs)))) ≡ end_after caller cs slots e (StageJudging left chain) x xs
-stage_judged_last caller cs slots e left chain x xs h =
-    ap (λ (b : Bool). after_piece (end_of_commands caller cs) (through_piece slots (stage_judged (stages_on caller chain) (if b then judgements left e xs else Some (x.reply, xs))))) (sym h)
 
 -- ---- stages
 

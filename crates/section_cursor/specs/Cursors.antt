@@ -45,16 +45,12 @@ abbrev pub is_due_again : Ahead → Reply → Bool
 is_due_again (Awaiting event part) reply = is_tried_again part reply
 is_due_again _ reply = false
 
--- whether the next command begins after the last of its tries, whatever the reply
-abbrev pub ends_command : Part → Bool
-ends_command Alone = true
-ends_command (Submission unit) = true
-ends_command (Judging slot left) = true
-ends_command _ = false
-
--- whether the command of the awaited event goes on after it
+-- whether the command of the awaited event may go on after the last of its tries
 abbrev pub goes_on : Ahead → Bool
-goes_on (Awaiting event part) = not (ends_command part)
+goes_on (Awaiting event Alone) = false
+goes_on (Awaiting event (Submission unit)) = false
+goes_on (Awaiting event (Judging slot left)) = false
+goes_on (Awaiting event part) = true
 goes_on _ = false
 
 -- How the record ends after the awaited event, which came as this.

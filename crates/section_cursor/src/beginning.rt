@@ -1,200 +1,23 @@
-// What a command begins with.
-ghost use Rattle.std.specs.Prelude.{◌≡◌, ◌<◌, ◌≤◌, ◌+◌, ◌∷◌, ℕ, List, Option, length, drop, slice_get, IfSome, if◌then◌else◌, count_by};
+// What each command begins with.
+ghost use Rattle.std.specs.Prelude.{◌≡◌, ◌<◌, ◌≤◌, ◌∷◌, List, Option, if◌then◌else◌};
 ghost use Rattle.event_words.specs.declared.event.Event.TheVariants as events;
 ghost use Rattle.event_words.specs.declared.record.LoggedEvent.{LoggedEvent};
 ghost use Rattle.event_words.specs.declared.section.Command.{Command as Commands};
-ghost use Rattle.event_words.specs.Sections.{stage_units, is_submit};
+ghost use Rattle.event_words.specs.Sections.{stage_units, is_submit, IsUnit};
 ghost use Rattle.event_words.specs.Records as records;
-ghost use Rattle.event_words.specs.Records.{judgements, polls, settled, until_piece, stage_judged, through_piece, after_piece, slot_of, end_of_commands};
+ghost use Rattle.event_words.specs.Records.{polls, until_piece, through_piece, after_piece, slot_of, end_of_commands};
 ghost use Rattle.std.specs.List.{AllByRecursion};
-ghost use Rattle.event_words.specs.Events.{caller_of};
 ghost use Rattle.event_words.specs.Valid.{IsValidAccess, IsValidEvent};
 ghost use Rattle.section_cursor.specs.declared.ahead.Ahead.TheVariants as aheads;
 ghost use Rattle.section_cursor.specs.declared.ahead.Part.TheVariants as parts;
-ghost use Rattle.section_cursor.specs.ValidEvents.{IsValidAhead, IsValidChain, IsValidPart, IsValidSlot, IsPlayable};
-ghost use Rattle.section_cursor.specs.Cursors.{end_of_rest, stages_on, part_submits, submits, AheadHasTries, PartHasTries, HasTries};
+ghost use Rattle.section_cursor.specs.ValidEvents.{IsValidAhead, IsValidSlot, IsPlayable};
+ghost use Rattle.section_cursor.specs.Cursors.{end_of_rest, submits, AheadHasTries, HasTries};
 
 use crate::ahead::{Ahead, Chain, OpenSlot, Part};
+use crate::pieces::{aim_event, first_try, passing, submission};
 use event_words::{Access, Command, Event, Stages};
 
-/// The first of up to `tries` tries of an event, which is this part: nothing may come where there is
-/// none.
-#[inline(always)]
-fn first_try(event: Event, tries: u32, part: Part) -> Ahead
-    ensures none { tries ≡ 0 → result ≡ aheads.Broken }
-    ensures first { 1 ≤ tries → result ≡ aheads.Awaiting event part }
-    ensures submits { part_submits part ≡ 0 → submits result ≡ 0 }
-    ensures tries { PartHasTries part → AheadHasTries result }
-    ensures valid { (who : ℕ) → caller_of event ≡ who → IsValidEvent event → IsValidPart part →
-        IsValidAhead who result }
-{
-    if tries == 0 {
-        return Ahead::Broken;
-    }
-    Ahead::Awaiting { event, part }
-}
-
-/// Up to `tries` judgements of an open slot.
-#[inline(always)]
-fn judging(slot: u32, event: Event, tries: u32) -> Ahead
-    ensures rest { (caller : ℕ) (cs : List Commands) (slots : List (Option records.OpenSlot))
-        (xs : List LoggedEvent) →
-        end_of_rest caller cs slots result xs
-        ≡ after_piece (end_of_commands caller cs)
-        (settled slots slot (judgements tries event xs)) }
-    ensures none { submits result ≡ 0 }
-    ensures tries { AheadHasTries result }
-    ensures valid { (who : ℕ) → caller_of event ≡ who → IsValidEvent event →
-        IsValidAhead who result }
-{
-    let left = tries.saturating_sub(1);
-    first_try(event, tries, Part::Judging { slot, left })
-}
-
-/// Up to `tries` reads until one hits.
-pub(crate) fn polling(event: Event, mask: u32, value: u32, tries: u32) -> Ahead
-    ensures rest { (caller : ℕ) (cs : List Commands) (slots : List (Option records.OpenSlot))
-        (xs : List LoggedEvent) →
-        end_of_rest caller cs slots result xs
-        ≡ after_piece (end_of_commands caller cs)
-        (until_piece slots (polls tries event mask value xs)) }
-    ensures none { submits result ≡ 0 }
-    ensures tries { AheadHasTries result }
-    ensures valid { (who : ℕ) → caller_of event ≡ who → IsValidEvent event →
-        IsValidAhead who result }
-{
-    let left = tries.saturating_sub(1);
-    first_try(event, tries, Part::Polling { mask, value, left })
-}
-
-/// Up to `tries` judgements of a stage's submission, and the stages after it.
-pub(crate) fn stage_judging(event: Event, tries: u32, chain: Chain) -> Ahead
-    ensures rest { (caller : ℕ) (cs : List Commands) (slots : List (Option records.OpenSlot))
-        (xs : List LoggedEvent) →
-        end_of_rest caller cs slots result xs
-        ≡ after_piece (end_of_commands caller cs)
-        (through_piece slots (stage_judged (stages_on caller chain)
-        (judgements tries event xs))) }
-    ensures none { submits result ≡ 0 }
-    ensures tries { 1 ≤ chain.max → AheadHasTries result }
-    ensures valid { (who : ℕ) → caller_of event ≡ who → IsValidEvent event → IsValidChain chain →
-        IsValidAhead who result }
-{
-    let left = tries.saturating_sub(1);
-    first_try(event, tries, Part::StageJudging { left, chain })
-}
-
-/// The units of the stages.
-fn stage_units(stages: &Stages) -> &[u8]
-    ensures units { result.now ≡ stage_units stages.now }
-    ensures few { length result.now ≤ 4 }
-{
-    let count = stages.count as usize;
-    if count < 4 {
-        &stages.units[..count]
-    } else {
-        &stages.units
-    }
-}
-
-/// The unit of the stage with this number, if there is one.
-fn unit_of(stages: &Stages, stage: u8) -> Option<u8>
-    ensures unit { result ≡ slice_get (stage_units stages.now) stage }
-    ensures few { IfSome result (λ _. stage < 4) }
-{
-    match stage_units(stages).get(stage as usize) {
-        Some(unit) => Some(*unit),
-        None => None,
-    }
-}
-
-fn submission(caller: u8, unit: u8, access: Access) -> Event
-    ensures { result ≡ events.Submit unit caller access }
-{
-    Event::Submit {
-        unit,
-        caller,
-        access,
-    }
-}
-
-fn aim_event(caller: u8, access: Access) -> Event
-    ensures { result ≡ events.Aim caller access.addr }
-{
-    Event::Aim {
-        caller,
-        addr: access.addr,
-    }
-}
-
-/// The Wide that follows the Aim of its address.
-pub(crate) fn wide_event(caller: u8, unit: u8, access: Access) -> Event
-    ensures { result ≡ records.wide_event unit caller access }
-{
-    Event::Wide {
-        unit,
-        caller,
-        rrid: access.rrid,
-        kind: access.kind,
-        len: access.len,
-    }
-}
-
-/// The submission of a stage whose number is one less than the chain's, and the stages after it.
-fn stage(caller: u8, unit: u8, access: Access, chain: Chain) -> Ahead
-    requires { access ≡ record chain.access { rrid = access.rrid } }
-    ensures rest { (cs : List Commands) (slots : List (Option records.OpenSlot))
-        (xs : List LoggedEvent) →
-        end_of_rest caller cs slots result xs
-        ≡ after_piece (end_of_commands caller cs)
-        (through_piece slots (records.one_stage caller chain.max unit access
-        (stages_on caller chain) xs)) }
-    ensures none { submits result ≡ 0 }
-    ensures tries { 1 ≤ chain.max → AheadHasTries result }
-    ensures valid { caller < 32 → unit < 4 → access.rrid ≤ 63 → IsValidChain chain →
-        IsValidAhead caller result }
-{
-    if access.narrow() {
-        return Ahead::Awaiting {
-            event: submission(caller, unit, access),
-            part: Part::Stage { unit, chain },
-        };
-    }
-    Ahead::Awaiting {
-        event: aim_event(caller, access),
-        part: Part::StageAiming {
-            unit,
-            rrid: access.rrid,
-            chain,
-        },
-    }
-}
-
-/// Stages, the first of which bears this requester.
-pub(crate) fn passing(caller: u8, chain: Chain, rrid: u8) -> Ahead
-    ensures rest { (cs : List Commands) (slots : List (Option records.OpenSlot))
-        (xs : List LoggedEvent) →
-        end_of_rest caller cs slots result xs
-        ≡ after_piece (end_of_commands caller cs)
-        (through_piece slots (stages_on caller chain rrid xs)) }
-    ensures none { submits result ≡ 0 }
-    ensures tries { 1 ≤ chain.max → AheadHasTries result }
-    ensures valid { caller < 32 → rrid ≤ 63 → IsValidChain chain → IsValidAhead caller result }
-{
-    let Some(unit) = unit_of(&chain.stages, chain.stage) else {
-        return Ahead::Between;
-    };
-    let access = Access {
-        rrid,
-        ..chain.access
-    };
-    let rest = Chain {
-        stage: chain.stage + 1,
-        ..chain
-    };
-    stage(caller, unit, access, rest)
-}
-
+/// What the slot with this number holds: nothing where it isn't open.
 fn slot_of(slots: &[Option<OpenSlot>], slot: u32) -> Option<OpenSlot>
     ensures { result ≡ slot_of slots.now slot }
 {
@@ -204,6 +27,7 @@ fn slot_of(slots: &[Option<OpenSlot>], slot: u32) -> Option<OpenSlot>
     }
 }
 
+/// A judgement of what an open slot holds.
 fn judgement(caller: u8, taken: OpenSlot) -> Event
     ensures { result ≡ events.Judge taken.unit caller taken.place }
 {
@@ -214,23 +38,7 @@ fn judgement(caller: u8, taken: OpenSlot) -> Event
     }
 }
 
-/// Up to `tries` judgements of a slot, and none where it isn't open.
-fn settling(caller: u8, slots: &[Option<OpenSlot>], slot: u32, tries: u32) -> Ahead
-    ensures rest { (cs : List Commands) (xs : List LoggedEvent) →
-        end_of_rest caller cs slots.now result xs
-        ≡ after_piece (end_of_commands caller cs)
-        (records.settle_piece caller tries slots.now slot (slot_of slots.now slot) xs) }
-    ensures none { submits result ≡ 0 }
-    ensures tries { AheadHasTries result }
-    ensures valid { caller < 32 → AllByRecursion IsValidSlot slots.now →
-        IsValidAhead caller result }
-{
-    let Some(open) = slot_of(slots, slot) else {
-        return Ahead::Between;
-    };
-    judging(slot, judgement(caller, open), tries)
-}
-
+/// A write of a register by this caller.
 fn write_event(caller: u8, unit: u8, index: u32, value: u32) -> Event
     ensures { result ≡ events.RegWrite unit caller index value }
 {
@@ -242,6 +50,7 @@ fn write_event(caller: u8, unit: u8, index: u32, value: u32) -> Event
     }
 }
 
+/// A read of a register by this caller.
 fn read_event(caller: u8, unit: u8, index: u32) -> Event
     ensures { result ≡ events.RegRead unit caller index }
 {
@@ -252,6 +61,7 @@ fn read_event(caller: u8, unit: u8, index: u32) -> Event
     }
 }
 
+/// An awaited event that is all of its command.
 fn alone(event: Event) -> Ahead
     ensures { result ≡ aheads.Awaiting event parts.Alone }
 {
@@ -259,89 +69,6 @@ fn alone(event: Event) -> Ahead
         event,
         part: Part::Alone,
     }
-}
-
-fn submitting(unit: u8, event: Event) -> Ahead
-    ensures { result ≡ aheads.Awaiting event (parts.Submission unit) }
-{
-    Ahead::Awaiting {
-        event,
-        part: Part::Submission { unit },
-    }
-}
-
-/// The Aim of a submission, whose Wide follows.
-fn aiming(caller: u8, unit: u8, access: Access) -> Ahead
-    ensures rest { (cs : List Commands) (slots : List (Option records.OpenSlot))
-        (xs : List LoggedEvent) →
-        end_of_rest caller cs slots result xs ≡ after_piece (end_of_commands caller cs)
-        (records.submit_piece slots unit (records.take_event_after (records.wide_event unit caller access) (records.take_event (events.Aim caller access.addr) xs))) }
-    ensures one { submits result ≡ 1 }
-    ensures tries { AheadHasTries result }
-    ensures valid { caller < 32 → unit < 4 → IsValidAccess access → IsValidAhead caller result }
-{
-    Ahead::Awaiting {
-        event: aim_event(caller, access),
-        part: Part::Aiming { unit, access },
-    }
-}
-
-/// A submission of one event or two.
-fn submitting_access(caller: u8, unit: u8, access: Access) -> Ahead
-    ensures rest { (cs : List Commands) (slots : List (Option records.OpenSlot))
-        (xs : List LoggedEvent) →
-        end_of_rest caller cs slots result xs
-        ≡ after_piece (end_of_commands caller cs)
-        (records.submit_piece slots unit (records.take_submission unit caller access xs)) }
-    ensures one { submits result ≡ 1 }
-    ensures tries { AheadHasTries result }
-    ensures valid { caller < 32 → unit < 4 → IsValidAccess access → IsValidAhead caller result }
-{
-    if access.narrow() {
-        return submitting(unit, submission(caller, unit, access));
-    }
-    aiming(caller, unit, access)
-}
-
-/// What `begin_with` does, for any command.
-#[inline(never)]
-fn begin_any(caller: u8, ahead: &mut Ahead, command: &Command, slots: &[Option<OpenSlot>])
-    ensures rest { (cs : List Commands) (xs : List LoggedEvent) →
-        end_of_rest caller cs slots.now ahead.new xs
-        ≡ end_of_commands caller (command.now ∷ cs) slots.now xs }
-    ensures submits { submits ahead.new ≡ (if is_submit command.now then 1 else 0) }
-    ensures tries { HasTries command.now → AheadHasTries ahead.new }
-    ensures valid { caller < 32 → AllByRecursion IsValidSlot slots.now → IsPlayable command.now →
-        IsValidAhead caller ahead.new }
-{
-    *ahead = match *command {
-        Command::Write { unit, index, value } => alone(write_event(caller, unit, index, value)),
-        Command::Read { unit, index } => alone(read_event(caller, unit, index)),
-        Command::Submit { unit, access, .. } => submitting_access(caller, unit, access),
-        Command::Judge { slot } => settling(caller, slots, slot, 1),
-        Command::Settle { slot, max } => settling(caller, slots, slot, max),
-        Command::Until {
-            unit,
-            index,
-            mask,
-            value,
-            max,
-        } => polling(read_event(caller, unit, index), mask, value, max),
-        Command::Through {
-            stages,
-            access,
-            max,
-        } => passing(
-            caller,
-            Chain {
-                stages,
-                stage: 0,
-                access,
-                max,
-            },
-            access.rrid,
-        ),
-    };
 }
 
 /// Awaits a write.
@@ -352,33 +79,116 @@ fn write(caller: u8, ahead: &mut Ahead, unit: u8, index: u32, value: u32)
     *ahead = alone(write_event(caller, unit, index, value));
 }
 
+/// Awaits a read.
+#[inline(never)]
+fn read(caller: u8, ahead: &mut Ahead, unit: u8, index: u32)
+    ensures { ahead.new ≡ aheads.Awaiting (events.RegRead unit caller index) parts.Alone }
+{
+    *ahead = alone(read_event(caller, unit, index));
+}
+
 /// Awaits a submission of one event.
 #[inline(never)]
 fn submit(caller: u8, ahead: &mut Ahead, unit: u8, access: &Access)
     ensures { ahead.new ≡ aheads.Awaiting (events.Submit unit caller access.now)
         (parts.Submission unit) }
 {
-    *ahead = submitting(unit, submission(caller, unit, *access));
+    *ahead = Ahead::Awaiting {
+        event: submission(caller, unit, *access),
+        part: Part::Submission { unit },
+    };
+}
+
+/// Awaits the Aim of a submission, whose Wide follows.
+#[inline(never)]
+fn aim(caller: u8, ahead: &mut Ahead, unit: u8, access: &Access)
+    ensures { ahead.new ≡ aheads.Awaiting (events.Aim caller access.now.addr)
+        (parts.Aiming unit access.now) }
+{
+    *ahead = Ahead::Awaiting {
+        event: aim_event(caller, *access),
+        part: Part::Aiming {
+            unit,
+            access: *access,
+        },
+    };
 }
 
 /// Awaits the one judgement of an open slot.
 #[inline(never)]
 fn judge(caller: u8, ahead: &mut Ahead, slot: u32, taken: OpenSlot)
+    ensures { ahead.new ≡ aheads.Awaiting (events.Judge taken.unit caller taken.place)
+        (parts.Judging slot 0) }
+{
+    *ahead = Ahead::Awaiting {
+        event: judgement(caller, taken),
+        part: Part::Judging { slot, left: 0 },
+    };
+}
+
+/// Awaits up to `tries` judgements of a slot, and none where it isn't open.
+#[inline(never)]
+fn settle(caller: u8, ahead: &mut Ahead, slots: &[Option<OpenSlot>], slot: u32, tries: u32)
+    ensures rest { (cs : List Commands) (xs : List LoggedEvent) →
+        end_of_rest caller cs slots.now ahead.new xs
+        ≡ after_piece (end_of_commands caller cs)
+        (records.settle_piece caller tries slots.now slot (slot_of slots.now slot) xs) }
+    ensures none { submits ahead.new ≡ 0 }
+    ensures tries { AheadHasTries ahead.new }
+    ensures valid { caller < 32 → AllByRecursion IsValidSlot slots.now →
+        IsValidAhead caller ahead.new }
+{
+    let Some(open) = slot_of(slots, slot) else {
+        *ahead = Ahead::Between;
+        return;
+    };
+    let left = tries.saturating_sub(1);
+    *ahead = first_try(judgement(caller, open), tries, Part::Judging { slot, left });
+}
+
+/// Awaits up to `tries` reads until one hits.
+#[inline(never)]
+fn until(caller: u8, ahead: &mut Ahead, unit: u8, index: u32, mask: u32, value: u32, tries: u32)
     ensures rest { (cs : List Commands) (slots : List (Option records.OpenSlot))
         (xs : List LoggedEvent) →
         end_of_rest caller cs slots ahead.new xs
         ≡ after_piece (end_of_commands caller cs)
-        (settled slots slot (judgements 1 (events.Judge taken.unit caller taken.place) xs)) }
+        (until_piece slots (polls tries (events.RegRead unit caller index) mask value xs)) }
     ensures none { submits ahead.new ≡ 0 }
     ensures tries { AheadHasTries ahead.new }
-    ensures valid { IsValidEvent (events.Judge taken.unit caller taken.place) →
+    ensures valid { IsValidEvent (events.RegRead unit caller index) →
         IsValidAhead caller ahead.new }
 {
-    *ahead = judging(slot, judgement(caller, taken), 1);
+    let left = tries.saturating_sub(1);
+    let part = Part::Polling { mask, value, left };
+    *ahead = first_try(read_event(caller, unit, index), tries, part);
 }
 
-/// Writes what a command begins with: `Between` where it makes no event. The commands that most sections
-/// consist of write it in functions of their own: in one, each pays for the words of the largest.
+/// Awaits the first of the stages.
+#[inline(never)]
+fn through(caller: u8, ahead: &mut Ahead, stages: &Stages, access: &Access, max: u32)
+    ensures rest { (cs : List Commands) (slots : List (Option records.OpenSlot))
+        (xs : List LoggedEvent) →
+        end_of_rest caller cs slots ahead.new xs
+        ≡ after_piece (end_of_commands caller cs)
+        (through_piece slots (records.through_stages caller max access.now
+        (stage_units stages.now) access.now.rrid xs)) }
+    ensures none { submits ahead.new ≡ 0 }
+    ensures tries { 1 ≤ max → AheadHasTries ahead.new }
+    ensures valid { caller < 32 → AllByRecursion IsUnit (stage_units stages.now) →
+        IsValidAccess access.now → IsValidAhead caller ahead.new }
+{
+    let chain = Chain {
+        stages: *stages,
+        stage: 0,
+        access: *access,
+        max,
+    };
+    *ahead = passing(caller, chain, access.rrid);
+}
+
+/// Writes what a command begins with: `Between` where it makes no event. Each command writes it in
+/// a function of its own: in one, each pays for the words of the largest.
 #[inline(always)]
 pub(crate) fn begin_with(
     caller: u8,
@@ -396,13 +206,27 @@ pub(crate) fn begin_with(
 {
     match command {
         Command::Write { unit, index, value } => write(caller, ahead, *unit, *index, *value),
+        Command::Read { unit, index } => read(caller, ahead, *unit, *index),
         Command::Submit { unit, access, .. } if access.narrow() => {
             submit(caller, ahead, *unit, access)
         }
+        Command::Submit { unit, access, .. } => aim(caller, ahead, *unit, access),
         Command::Judge { slot } => match slot_of(slots, *slot) {
             Some(open) => judge(caller, ahead, *slot, open),
             None => *ahead = Ahead::Between,
         },
-        _ => begin_any(caller, ahead, command, slots),
+        Command::Settle { slot, max } => settle(caller, ahead, slots, *slot, *max),
+        Command::Until {
+            unit,
+            index,
+            mask,
+            value,
+            max,
+        } => until(caller, ahead, *unit, *index, *mask, *value, *max),
+        Command::Through {
+            stages,
+            access,
+            max,
+        } => through(caller, ahead, stages, access, *max),
     }
 }

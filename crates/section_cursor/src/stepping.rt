@@ -1,5 +1,5 @@
 // What comes after an awaited event.
-ghost use Rattle.std.specs.Prelude.{◌≡◌, ◌<◌, ◌^◌, ◌≤◌, ◌+◌, ◌++◌, ◌∷◌, [], ℕ, List, Option, Some, true, false, length, vec_len, vec_capacity};
+ghost use Rattle.std.specs.Prelude.{◌≡◌, ◌<◌, ◌^◌, ◌≤◌, ◌+◌, ◌∷◌, ℕ, List, Option, Some, true, false, vec_len, vec_capacity};
 ghost use Rattle.event_words.specs.declared.event.Event.{Event as Events};
 ghost use Rattle.event_words.specs.declared.record.LoggedEvent.{LoggedEvent as Logged};
 ghost use Rattle.event_words.specs.declared.section.Command.{Command};
@@ -7,13 +7,12 @@ ghost use Rattle.event_words.specs.Records as records;
 ghost use Rattle.event_words.specs.Records.{closed_by, opened_slot, hits, until_piece, stage_judged, through_piece, after_piece, end_of_commands};
 ghost use Rattle.section_cursor.specs.declared.ahead.Part.TheVariants as parts;
 ghost use Rattle.std.specs.List.{AllByRecursion};
-ghost use Rattle.event_words.specs.Events.{caller_of};
-ghost use Rattle.event_words.specs.Valid.{IsValidAccess, IsValidEvent};
-ghost use Rattle.section_cursor.specs.ValidEvents.{IsValidAhead, IsValidChain, IsValidSlot, IsValidPart};
-ghost use Rattle.section_cursor.specs.Cursors.{end_of_rest, end_after, stages_on, is_tried_again, ends_command, submits, part_submits, AheadHasTries, PartHasTries};
+ghost use Rattle.event_words.specs.Valid.{IsValidAccess};
+ghost use Rattle.section_cursor.specs.ValidEvents.{IsValidAhead, IsValidChain, IsValidSlot};
+ghost use Rattle.section_cursor.specs.Cursors.{end_of_rest, end_after, stages_on, is_due, is_due_again, goes_on, submits, AheadHasTries};
 
 use crate::ahead::{Ahead, Chain, OpenSlot, Part};
-use crate::beginning::{passing, stage_judging, wide_event};
+use crate::pieces::{passing, stage_judging, wide_event};
 use crate::replies::{hits, is_aimed, is_taken, is_verdict, next_requester};
 use event_words::{Access, Event, LoggedEvent, Reply, SectionEnd};
 
@@ -74,7 +73,8 @@ fn after_aim(caller: u8, unit: u8, access: Access) -> Ahead
     }
 }
 
-/// After the Aim of a stage's submission by this requester: its Wide follows where the Aim is replied so.
+/// After the Aim of a stage's submission by this requester: its Wide follows where the Aim is
+/// replied so.
 fn after_stage_aim(caller: u8, unit: u8, rrid: u8, chain: Chain, logged: &LoggedEvent) -> Ahead
     ensures rest { (event : Events) (cs : List Command) (slots : List (Option records.OpenSlot))
         (xs : List Logged) →
@@ -137,56 +137,25 @@ fn after_stage_judgements(caller: u8, chain: Chain, logged: &LoggedEvent) -> Ahe
     }
 }
 
-/// Whether the next command begins after the awaited event, which came as this one and isn't tried
-/// again. A submission adds its slot, for which there must be room, and a verdict closes the slot of its
-/// submission. Where it goes on otherwise, nothing changes.
-pub(crate) fn ends_command(
-    slots: &mut Vec<Option<OpenSlot>>,
-    part: &Part,
-    logged: &LoggedEvent,
-) -> bool
-    requires last { is_tried_again part.now logged.now.reply ≡ false }
-    requires room { vec_len slots.old + part_submits part.now ≤ vec_capacity slots.old }
-    ensures ends { result ≡ ends_command part.now }
-    ensures rest { ends_command part.now ≡ true →
-        (caller : ℕ) (event : Events) (cs : List Command) (xs : List Logged) →
-        end_of_commands caller cs slots.new.items xs
-        ≡ end_after caller cs slots.old.items event part.now logged.now xs }
-    ensures count { ends_command part.now ≡ true → vec_len slots.new
-        ≡ vec_len slots.old + part_submits part.now }
-    ensures same { ends_command part.now ≡ false → slots.new ≡ slots.old }
-    ensures capacity { vec_capacity slots.new ≡ vec_capacity slots.old }
-    ensures slots { logged.now.place < 2 ^ 24 → IsValidPart part.now →
-        AllByRecursion IsValidSlot slots.old.items → AllByRecursion IsValidSlot slots.new.items }
+/// What `step` does where the command of the awaited event may go on. It is out of line: in `step`,
+/// each command that ends would pay for the words of what it writes.
+#[inline(never)]
+fn step_within(caller: u8, ahead: &mut Ahead, logged: &LoggedEvent)
+    requires due { is_due ahead.old logged.now.event ≡ true }
+    requires last { is_due_again ahead.old logged.now.reply ≡ false }
+    requires within { goes_on ahead.old ≡ true }
+    ensures rest { (cs : List Command) (slots : List (Option records.OpenSlot)) (xs : List Logged) →
+        end_of_rest caller cs slots ahead.new xs
+        ≡ end_of_rest caller cs slots ahead.old (logged.now ∷ xs) }
+    ensures count { submits ahead.new ≡ submits ahead.old }
+    ensures tries { AheadHasTries ahead.old → AheadHasTries ahead.new }
+    ensures valid { caller < 32 → logged.now.place < 2 ^ 24 → IsValidAhead caller ahead.old →
+        IsValidAhead caller ahead.new }
 {
-    match *part {
-        Part::Alone => true,
-        Part::Submission { unit } => {
-            slots.push_reserved(opened_slot(unit, logged));
-            true
-        }
-        Part::Judging { slot, .. } => {
-            close(&logged.reply, slot, slots);
-            true
-        }
-        _ => false,
-    }
-}
-
-/// What comes after an awaited event that goes on otherwise.
-pub(crate) fn ahead_after(caller: u8, part: &Part, logged: &LoggedEvent) -> Ahead
-    requires last { is_tried_again part.now logged.now.reply ≡ false }
-    requires goes_on { ends_command part.now ≡ false }
-    ensures rest { (event : Events) (cs : List Command) (slots : List (Option records.OpenSlot))
-        (xs : List Logged) →
-        end_of_rest caller cs slots result xs
-        ≡ end_after caller cs slots event part.now logged.now xs }
-    ensures tries { PartHasTries part.now → AheadHasTries result }
-    ensures count { submits result ≡ part_submits part.now }
-    ensures valid { caller < 32 → logged.now.place < 2 ^ 24 → IsValidPart part.now →
-        IsValidAhead caller result }
-{
-    match *part {
+    let Ahead::Awaiting { part, .. } = &*ahead else {
+        return;
+    };
+    *ahead = match *part {
         Part::Aiming { unit, access } => after_aim(caller, unit, access),
         Part::Polling { mask, value, .. } => after_polls(mask, value, logged),
         Part::StageAiming { unit, rrid, chain } => {
@@ -195,5 +164,46 @@ pub(crate) fn ahead_after(caller: u8, part: &Part, logged: &LoggedEvent) -> Ahea
         Part::Stage { unit, chain } => after_stage(caller, unit, chain, logged),
         Part::StageJudging { chain, .. } => after_stage_judgements(caller, chain, logged),
         _ => Ahead::Between,
+    };
+}
+
+/// What comes after the awaited event, which came as this one and isn't awaited again: `Between`
+/// where the next command does. A submission adds its slot, for which there must be room, and a
+/// verdict closes the slot of its submission.
+#[inline(always)]
+pub(crate) fn step(
+    caller: u8,
+    ahead: &mut Ahead,
+    slots: &mut Vec<Option<OpenSlot>>,
+    logged: &LoggedEvent,
+)
+    requires due { is_due ahead.old logged.now.event ≡ true }
+    requires last { is_due_again ahead.old logged.now.reply ≡ false }
+    requires room { vec_len slots.old + submits ahead.old ≤ vec_capacity slots.old }
+    ensures rest { (cs : List Command) (xs : List Logged) →
+        end_of_rest caller cs slots.new.items ahead.new xs
+        ≡ end_of_rest caller cs slots.old.items ahead.old (logged.now ∷ xs) }
+    ensures count { vec_len slots.new + submits ahead.new ≡ vec_len slots.old + submits ahead.old }
+    ensures capacity { vec_capacity slots.new ≡ vec_capacity slots.old }
+    ensures tries { AheadHasTries ahead.old → AheadHasTries ahead.new }
+    ensures slots { logged.now.place < 2 ^ 24 → IsValidAhead caller ahead.old →
+        AllByRecursion IsValidSlot slots.old.items → AllByRecursion IsValidSlot slots.new.items }
+    ensures valid { caller < 32 → logged.now.place < 2 ^ 24 → IsValidAhead caller ahead.old →
+        IsValidAhead caller ahead.new }
+{
+    let Ahead::Awaiting { part, .. } = &*ahead else {
+        return;
+    };
+    match *part {
+        Part::Alone => *ahead = Ahead::Between,
+        Part::Submission { unit } => {
+            slots.push_reserved(opened_slot(unit, logged));
+            *ahead = Ahead::Between;
+        }
+        Part::Judging { slot, .. } => {
+            close(&logged.reply, slot, slots);
+            *ahead = Ahead::Between;
+        }
+        _ => step_within(caller, ahead, logged),
     }
 }

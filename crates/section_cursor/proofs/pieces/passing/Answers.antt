@@ -1,6 +1,6 @@
 use Rattle.std.proofs.Common.{arith, sym, ◌∙◌}
 use Rattle.section_cursor.proofs.Beginnings.{passing_none, passing_first}
-use Rattle.section_cursor.proofs.beginning.passing.Goals as goal
+use Rattle.section_cursor.proofs.pieces.passing.Goals as goal
 
 pub returns-in_default-clause-rest : goal.returns-in_default-clause-rest
 returns-in_default-clause-rest c = λ cs slots xs. passing_none c.args.caller cs slots c.args.chain c.args.rrid xs (sym c.in_default.ensures.unit)
