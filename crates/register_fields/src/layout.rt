@@ -6,6 +6,18 @@ ghost use Rattle.register_fields.specs.Places.{IsRegisterAt};
 
 use event_words::{Register, Shape};
 
+/// The index of ERR_INFO.
+pub const ERR_INFO: u32 = 25;
+
+/// The index of ERR_REQADDR.
+pub const ERR_REQADDR: u32 = 26;
+
+/// The index of ERR_REQADDRH.
+pub const ERR_REQADDRH: u32 = 27;
+
+/// The index of ERR_REQID.
+pub const ERR_REQID: u32 = 28;
+
 #[inline(always)]
 fn scalar_at(index: u32) -> Option<Register>
     ensures { result ≡ scalar_at index }
@@ -22,10 +34,10 @@ fn scalar_at(index: u32) -> Option<Register>
         18 => Some(Register::Mdcfglck),
         19 => Some(Register::Entrylck),
         24 => Some(Register::ErrCfg),
-        25 => Some(Register::ErrInfo),
-        26 => Some(Register::ErrReqaddr),
-        27 => Some(Register::ErrReqaddrh),
-        28 => Some(Register::ErrReqid),
+        ERR_INFO => Some(Register::ErrInfo),
+        ERR_REQADDR => Some(Register::ErrReqaddr),
+        ERR_REQADDRH => Some(Register::ErrReqaddrh),
+        ERR_REQID => Some(Register::ErrReqid),
         _ => None,
     }
 }

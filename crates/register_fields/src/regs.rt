@@ -9,7 +9,7 @@ ghost use Rattle.event_words.specs.WellFormed.{IsWellFormed, IsInside};
 ghost use Rattle.register_fields.specs.Rights.{rights_bits};
 
 use crate::fields::{FieldValue, sum_of_register};
-use crate::layout::register_at;
+use crate::layout::{ERR_INFO, ERR_REQADDR, ERR_REQADDRH, ERR_REQID, register_at};
 use crate::rights::Rights;
 use bitflags::Flags;
 use event_words::{Register, Shape};
@@ -171,9 +171,9 @@ impl Regs {
         requires addrh { IsInside (whole self.old.shape Register.ErrReqaddrh) addrh }
         ensures { self.new ≡ with_error self.old info addr addrh id }
     {
-        self.words[25] = info;
-        self.words[26] = addr;
-        self.words[27] = addrh;
-        self.words[28] = id;
+        self.words[ERR_INFO as usize] = info;
+        self.words[ERR_REQADDR as usize] = addr;
+        self.words[ERR_REQADDRH as usize] = addrh;
+        self.words[ERR_REQID as usize] = id;
     }
 }
