@@ -1,5 +1,5 @@
 -- What is kept of events in words: a word says all of a submission that is no wide one, and the number of one that is.
-use Rattle.std.specs.Prelude.{◌≡◌, ℕ, ◌+◌, ◌-◌, ◌^◌, ◌/◌, ◌%◌, ◌≤◌, ◌==◌, ◌&&◌, nat_le, Bool, true, false, List, Option, Some, if◌then◌else◌, length, map, slice_index_or}
+use Rattle.std.specs.Prelude.{◌≡◌, ℕ, ◌+◌, ◌-◌, ◌^◌, ◌/◌, ◌%◌, ◌≤◌, ◌==◌, ◌&&◌, nat_le, Bool, true, false, List, Option, None, Some, if◌then◌else◌, length, map, slice_index_or}
 use Rattle.std.specs.List.{AllByRecursion}
 use Rattle.event_words.specs.declared.access.Access.{Access}
 use Rattle.event_words.specs.declared.event.Event.{Event}
@@ -66,6 +66,11 @@ pub record HasRoom (place : ℕ) (kept : KeptView) : Type 0 where
   pub wides : kept.wides ≤ place
   pub places : length kept.items ≤ kept.places
   pub few : kept.places ≤ 1048576
+
+-- How many wide submissions more are kept with one: none with one that has a word.
+abbrev pub wides_of : Option ℕ → ℕ
+wides_of None = 1
+wides_of (Some word) = 0
 
 -- What is kept changed, with at most so many wide submissions more.
 pub record KeepsRoom (more : ℕ) (kept kept' : KeptView) : Type 0 where

@@ -5,7 +5,7 @@ ghost use Rattle.event_words.specs.Valid.{IsValidAccess};
 ghost use Rattle.event_words.specs.Word.{event_of_word};
 ghost use Rattle.event_words.specs.declared.event.Event.TheVariants.{Submit};
 ghost use Rattle.unit_core.specs.Places.{access_of, open_access, submission_in, nothing_kept, IsKept};
-ghost use Rattle.unit_core.specs.KeptWords.{kept_of, kept_of_event, wide_at, is_submit_of, is_submit_word, HasRoom, KeepsRoom, IsWordOf};
+ghost use Rattle.unit_core.specs.KeptWords.{kept_of, kept_of_event, wide_at, is_submit_of, is_submit_word, HasRoom, KeepsRoom, IsWordOf, wides_of};
 
 use crate::NoMemory;
 use event_words::{Access, Kind, SUBMIT_KIND, SubmitWord, unpack_submit};
@@ -162,7 +162,7 @@ impl KeptEvents {
         requires word { IfSome word (IsWordOf unit caller access.now) }
         ensures items { self.new.items
             ≡ slice_set self.old.items place (kept_of unit caller access.now) }
-        ensures room { KeepsRoom 1 self.old self.new }
+        ensures room { KeepsRoom (wides_of word) self.old self.new }
     {
         match word {
             Some(word) => self.keep_word(place, word),

@@ -8,7 +8,7 @@ ghost use Rattle.event_words.specs.Valid.{IsValidAccess, IsValidEvent};
 ghost use Rattle.unit_core.specs.Units.{event_step, taken_step, submission_of, wide_access, aims_after};
 ghost use Rattle.unit_core.specs.Parts.{CanWrite};
 ghost use Rattle.unit_core.specs.Places.{IsKept, AllAgree, IsTaken, MayStep, states_of};
-ghost use Rattle.unit_core.specs.KeptWords.{HasRoom, KeepsRoom, IsWordOf};
+ghost use Rattle.unit_core.specs.KeptWords.{HasRoom, KeepsRoom, IsWordOf, wides_of};
 ghost use Rattle.unit_core.specs.declared.kept.Kept.{Kept};
 
 use crate::kept::KeptEvents;
@@ -69,7 +69,7 @@ pub fn submit_on(
     requires room { HasRoom place kept.old }
     requires access { IsValidAccess access.now }
     requires word { IfSome word (IsWordOf unit caller access.now) }
-    ensures keeps { KeepsRoom 1 kept.old kept.new }
+    ensures keeps { KeepsRoom (wides_of word) kept.old kept.new }
     ensures all_valid { AllByRecursion IsKept kept.new.items }
     ensures taken { IsTaken place
         (Submit unit caller access.now) units.old units.new kept.old.items kept.new.items }

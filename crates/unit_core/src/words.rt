@@ -58,7 +58,7 @@ fn submit_word(units: &mut [IopmpUnit], kept: &mut KeptEvents, place: u32, word:
     requires ready { MayStep place units.old kept.old.items }
     requires room { HasRoom place kept.old }
     requires kind { word / 2 ^ 61 ≡ 3 }
-    ensures keeps { KeepsRoom 1 kept.old kept.new }
+    ensures keeps { KeepsRoom 0 kept.old kept.new }
     ensures taken { (aims : List ℕ) →
         IsWordTaken place word units.old units.new aims aims kept.old.items kept.new.items }
     ensures reply { (aims : List ℕ) → result ≡ (word_step place
