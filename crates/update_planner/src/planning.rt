@@ -11,7 +11,7 @@ ghost use Rattle.update_planner.specs.Values.{WritesUnit};
 
 use crate::refusal::plan_refusal;
 use crate::{Plan, PlanError, commands};
-use policy_compiler::{Image, Policy, compile};
+use policy_compiler::{CompileError, Image, Policy, compile};
 use std::alloc::Global;
 
 /// The image of a policy that fits its unit. It fails for want of memory alone.
@@ -22,7 +22,8 @@ fn image(alloc: Global, policy: &Policy) -> Result<Image, PlanError>
 {
     match compile(alloc, policy) {
         Ok(image) => Ok(image),
-        Err(_) => Err(PlanError::NoMemory),
+        Err(CompileError::NoMemory) => Err(PlanError::NoMemory),
+        Err(_) => unreachable!(),
     }
 }
 

@@ -21,7 +21,7 @@ use crate::refusals::bad_line;
 use checker_workers::Gate;
 use event_words::{Section, Shape};
 use history_reports::WhichReport;
-use policy_compiler::{Policy, compile};
+use policy_compiler::{CompileError, Policy, compile};
 use script_reader::{Script, ScriptError, read_lanes};
 use std::alloc::{AllocError, Global};
 use std::thread::Threads;
@@ -49,7 +49,8 @@ fn boot(alloc: Global, policy: &Policy) -> Result<Section, AllocError>
 {
     match compile(alloc, policy) {
         Ok(image) => image_section(alloc, &image),
-        Err(_) => Err(AllocError),
+        Err(CompileError::NoMemory) => Err(AllocError),
+        Err(_) => unreachable!(),
     }
 }
 
