@@ -18,19 +18,20 @@ use Rattle.unit_core.specs.Units.{FabricState}
 use Rattle.unit_core.specs.Fabrics.{state_after_word, reply_to_word}
 use Rattle.unit_core.specs.Histories.{logged_in, HasRecord, IsBoot, IsOfLane}
 use Rattle.event_words.specs.ReportLines.{event_line}
+use Rattle.event_words.proofs.ListItems.{all_push}
 use Rattle.script_reader.specs.Scripts.{ScriptOf}
 use Rattle.script_reader.specs.ReportTexts.{fed_lines}
 use Rattle.audit_reader.specs.Beginnings.{IsLegalSoFar, BeginRecords, IsOfSomeLane}
 use Rattle.audit_reader.specs.Following.{Follow, AreInOrder, IsSeen, IsNext, ListsNone, entry_after, state_after, IsAt, MayCome, IsAwaited, NoneIsAwaited}
 use Rattle.audit_reader.proofs.NextEvents.{get_or_same}
 use Rattle.audit_reader.proofs.WholeLines.{begins_with}
-use Rattle.audit_reader.proofs.OneMore.{logged_on, logged_more, state_more, later, IsAfter, noted, allowed, as_many, follows_at, boot_over, all_more, lanes_from, boot_same, is_of_some, boot_first}
+use Rattle.audit_reader.proofs.OneMore.{logged_on, logged_more, state_more, later, IsAfter, noted, allowed, as_many, follows_at, boot_over, lanes_from, boot_same, is_of_some, boot_first}
 
 -- ---- the order, one event more
 
 more_of_boot : (script : ScriptOf) (words : List ℕ) (cs : List CursorOf) (d : CursorOf) (w : ℕ) → AreInOrder script words → Follow (logged_in script.shapes words) 0 cs (script.boot ∷ script.lanes)
     → caller_of_word w ≡ 0 → (IsSome (rest_end (get_or cs 0 d) []) → ⊥) → AreInOrder script (words ++ w ∷ [])
-more_of_boot script words cs d w (inl boot) f h over = inl (all_more IsBoot words w boot h)
+more_of_boot script words cs d w (inl boot) f h over = inl (all_push IsBoot words w boot h)
 more_of_boot script words cs d w (inr lanes) f h over = absurd (over (subst IsSome (sym (boot_over cs script words d f)) lanes.whole))
 
 more_of_lanes : (script : ScriptOf) (words : List ℕ) (w : ℕ) → AreInOrder script words → IsOfLane (length script.lanes) w
@@ -43,7 +44,7 @@ more_of_lanes script words w o h whole =
         others = b.others ++ w ∷ [];
         is = ap (λ ws. ws ++ w ∷ []) b.is ∙ append_assoc b.boot b.others (w ∷ []);
         of_boot = b.of_boot;
-        of_lanes = all_more (IsOfLane (length script.lanes)) b.others w b.of_lanes h;
+        of_lanes = all_push (IsOfLane (length script.lanes)) b.others w b.of_lanes h;
       };
       whole = subst (λ xs. IsSome (section_end 0 script.boot xs)) (sym (boot_same script (length script.lanes) words (w ∷ []) (h, tt))) whole;
     })
@@ -88,7 +89,7 @@ good_step script words state after cs caller place event reply left rest new d s
       valid = v.0;
       listed = l ∙ ap (λ y. event_line y ∷ fed_lines rest) it;
       seen = record {
-        events = all_more IsEventWord words (word_of event) s.events (word_of-is_word event v.0);
+        events = all_push IsEventWord words (word_of event) s.events (word_of-is_word event v.0);
         reached = p ∙ ap (λ us. state_after_word us place (word_of event)) s.reached ∙ ap (λ m. state_after_word (state_after script.shapes words) m (word_of event)) (sym k) ∙ sym (state_more script.shapes words (word_of event));
         order = in_order caller refl borne lanes;
         follow = subst (λ xs. Follow xs 0 (set cs caller new) (script.boot ∷ script.lanes))

@@ -1,6 +1,6 @@
 -- Reports in numbers: which of their first lines are good.
-use Rattle.std.proofs.Common.{◌≡◌, ◌⊎◌, ℕ, zero, suc, ◌+◌, ◌^◌, ◌<◌, ◌≤◌, List, [], ◌∷◌, None, length, take, map, codes, refl, arith, inl, inr, false, sym, ap, ◌∙◌}
-use Rattle.std.specs.Prelude.{Any, IsTrue, slice_index, slice_index_or}
+use Rattle.std.proofs.Common.{◌≡◌, ◌⊎◌, ℕ, zero, suc, ◌+◌, ◌^◌, ◌<◌, ◌≤◌, List, [], ◌∷◌, None, length, take, map, codes, refl, arith, inl, inr, false, ap}
+use Rattle.std.specs.Prelude.{IsTrue, slice_index, slice_index_or}
 use Rattle.std.specs.Fmt.{digits}
 use lib.Count
 use Rattle.std.specs.List.{AllByRecursion}
@@ -19,9 +19,10 @@ use Rattle.unit_core.specs.Histories.{IsBoot}
 use Rattle.unit_core.specs.Reports.{report_text}
 use Rattle.script_reader.specs.Scripts.{ScriptOf, need_of}
 use Rattle.script_reader.specs.ReportTexts.{fed_lines}
-use Rattle.audit_reader.specs.Beginnings.{IsLegalSoFar, IsOfSomeLane}
+use Rattle.audit_reader.specs.Beginnings.{IsLegalSoFar}
 use Rattle.audit_reader.specs.ReportLines.{report_lines}
 use Rattle.audit_reader.specs.Audits.{HasGoodLines, IsFirstBadLine}
+use Rattle.audit_reader.proofs.OneMore.{no_lane}
 
 abbrev small : Shape
 small = record { rrids = 4; domains = 3; entries = 8; mdcfg = 0; k = 0; srcmd = 0; sps = false; queue = 1; transl = None }
@@ -143,11 +144,6 @@ read_word addr l n = (events.Submit 0 0 (read_at addr), (head, access addr l, n)
 all_by_boot : AllByRecursion IsBoot before_last
 unfolding caller_of_word
 all_by_boot = (refl, (refl, (refl, (refl, (refl, (refl, (refl, (refl, tt))))))))
-
-no_lane : (words : List ℕ) → AllByRecursion IsBoot words → Any IsOfSomeLane words → ⊥
-no_lane [] boot (k, x, l, e, p) = absurd (omega (arith, l))
-no_lane (w ∷ ws) boot (zero, x, l, e, p) = let none : caller_of_word x ≡ 0 = ap caller_of_word (sym e) ∙ boot.0 in absurd (omega (arith, none, p))
-no_lane (w ∷ ws) boot (suc k, x, l, e, p) = no_lane ws boot.1 (k, x, omega (arith, l), e, p)
 
 eight_events : IsLegalSoFar two_reads before_last
 unfolding IsEventWord lib.Count.count_trailing_zeros

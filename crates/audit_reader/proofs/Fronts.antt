@@ -1,9 +1,9 @@
 -- The number that a text begins with, before a space.
-use Rattle.std.proofs.Common.{◌≡◌, ◌⊎◌, ℕ, Bool, true, false, zero, suc, ◌+◌, ◌<◌, ◌≤◌, ◌++◌, List, [], ◌∷◌, None, Some, length, get_or, drop, decimal, codes, refl, sym, ap, subst, ◌∙◌, arith, inl, inr, append_assoc, length-append, ◌/◌, ◌%◌, ◌*◌, ◌-◌, cond}
+use Rattle.std.proofs.Common.{◌≡◌, ◌⊎◌, ℕ, false, zero, suc, ◌+◌, ◌<◌, ◌≤◌, ◌++◌, List, [], ◌∷◌, None, Some, length, get_or, drop, decimal, codes, refl, sym, ap, subst, ◌∙◌, arith, inl, inr, append_assoc, length-append, ◌/◌, ◌%◌, ◌*◌, ◌-◌, cond}
 use Rattle.std.proofs.Math.Seq.{drop-append_seam}
 use Rattle.std.specs.Fmt.{digits, digits_onto, digit_glyph}
-use Rattle.std.specs.Prelude.{◌&&◌, ◌==◌, nat_le, if◌then◌else◌}
-use Rattle.std.proofs.lemmas.Bool.{le-leb}
+use Rattle.std.specs.Prelude.{◌==◌, nat_le, if◌then◌else◌}
+use Rattle.std.proofs.lemmas.Bool.{le-leb, and_from}
 use Rattle.std.proofs.lemmas.Bool.Decides.{nat_tests}
 use Rattle.audit_reader.specs.Digits.{digit_at}
 use Rattle.event_words.specs.declared.record.LoggedEvent.{LoggedEvent}
@@ -67,12 +67,8 @@ rest_of_line x place front text rest p f l =
 
 pub digit_of : (b n : ℕ) → n < 10 → b ≡ 48 + n → digit_at b ≡ Some n
 digit_of b n l e =
-    ap (λ t. if t then Some (b - 48) else None) (both (nat_le 48 b) (nat_le b 57) (le-leb 48 b (omega (arith, e))) (le-leb b 57 (omega (arith, e, l))))
+    ap (λ t. if t then Some (b - 48) else None) (and_from (nat_le 48 b) (nat_le b 57) (le-leb 48 b (omega (arith, e))) (le-leb b 57 (omega (arith, e, l))))
     ∙ ap Some (let m : b - 48 ≡ n = omega (arith, e) in m)
-  where
-    both : (p q : Bool) → p ≡ true → q ≡ true → (p && q) ≡ true
-    both true q h k = k
-    both false q h k = h
 
 -- ---- as an option
 
@@ -87,9 +83,3 @@ is_one n text (inr b) h = absurd (omega (arith, b.0, b.2, b.3, h))
 pub is_two : (n : ℕ) (text : List ℕ) → Begins n text → (get_or text 1 0 ≡ 32 → ⊥) → (m : ℕ) × (n ≡ 10 + m) × (m < 10) × (get_or text 1 0 ≡ 48 + m)
 is_two n text (inl b) h = absurd (h b.3)
 is_two n text (inr b) h = (n - 10, omega (arith, b.0), omega (arith, b.0, b.3), omega (arith, b.0, b.2))
-
-pub no_none : (n : ℕ) → None ≡ Some n → ⊥
-no_none n h = cc
-
-pub same_some : (m n : ℕ) → Some m ≡ Some n → m ≡ n
-same_some m n h = cc

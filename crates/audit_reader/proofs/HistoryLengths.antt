@@ -1,8 +1,7 @@
 -- A legal history has no more events than its script needs.
-use Rattle.std.proofs.Common.{◌≡◌, ℕ, zero, suc, ◌+◌, ◌*◌, ◌<◌, ◌≤◌, false, true, cond, List, [], ◌∷◌, ◌++◌, Option, Some, None, length, max, sum_by, refl, sym, ap, subst, ◌∙◌, arith, ⊎_elim}
+use Rattle.std.proofs.Common.{◌≡◌, ℕ, suc, ◌+◌, ◌*◌, ◌<◌, ◌≤◌, false, true, List, [], ◌∷◌, ◌++◌, Option, Some, None, length, max, sum_by, sym, ap, subst, ◌∙◌, arith}
 use Rattle.std.specs.Prelude.{IsSome, IfSome}
 use Rattle.std.specs.List.{AllByRecursion}
-use Rattle.std.proofs.lemmas.Bool.{cases_eq, eq-eqb, ne_eqb}
 use Rattle.std.proofs.lemmas.List.{length-map}
 use Rattle.event_words.specs.declared.record.LoggedEvent.{LoggedEvent}
 use Rattle.event_words.specs.declared.record.SectionEnd.{SectionEnd}
@@ -13,10 +12,12 @@ use Rattle.event_words.specs.Sections.{SectionOf, most_events, most_section_even
 use Rattle.event_words.proofs.EventWords.{word_event}
 use Rattle.event_words.proofs.Runs.{caller_of_word-word_of}
 use Rattle.event_words.proofs.RecordLengths.{record_length}
-use Rattle.script_reader.specs.Scripts.{ScriptOf, most_from, need_of}
+use Rattle.script_reader.specs.Scripts.{ScriptOf, most_from, need_of, HasAtMost}
+use Rattle.script_reader.proofs.Needs.{at_least, each_within, length_sum}
 use Rattle.unit_core.specs.Fabrics.{state_after_word, reply_to_word}
 use Rattle.unit_core.specs.Histories.{HaveRecords, IsBoot, IsOfLane, IsLegalHistory, logged_in}
 use Rattle.event_words.specs.ReportLines.{event_line}
+use Rattle.event_words.proofs.CallerSums.{totals, sum_is}
 use Rattle.unit_core.specs.Units.{FabricState, fabric_at_reset}
 use Rattle.audit_reader.proofs.EqualLines.{as_many_lines}
 
@@ -31,50 +32,8 @@ record_short caller s xs h = by (section_end caller s xs) h (record_length calle
 
 -- ---- each event is of one caller
 
--- the events of so many callers, from a number on
-abbrev totals : List LoggedEvent → ℕ → ℕ → ℕ
-totals xs i zero = 0
-totals xs i (suc n) = length (events_by i xs) + totals xs (i + 1) n
-
-own_more : (x : LoggedEvent) (xs : List LoggedEvent) (i : ℕ) → caller_of x.event ≡ i → length (events_by i (x ∷ xs)) ≡ suc (length (events_by i xs))
-own_more x xs i e = ap (λ b. length (cond b (x ∷ events_by i xs) (events_by i xs))) (eq-eqb (caller_of x.event) i e)
-
-own_other : (x : LoggedEvent) (xs : List LoggedEvent) (i : ℕ) → (caller_of x.event ≡ i → ⊥) → length (events_by i (x ∷ xs)) ≡ length (events_by i xs)
-own_other x xs i ne = ap (λ b. length (cond b (x ∷ events_by i xs) (events_by i xs))) (ne_eqb (caller_of x.event) i ne)
-
-totals_other : (x : LoggedEvent) (xs : List LoggedEvent) (i n : ℕ) → caller_of x.event < i → totals (x ∷ xs) i n ≡ totals xs i n
-totals_other x xs i zero l = refl
-totals_other x xs i (suc n) l =
-    let own = own_other x xs i (λ e. absurd (omega (arith, e, l))) in
-    let rest = totals_other x xs (i + 1) n (omega (arith, l)) in
-    omega (arith, own, rest)
-
-totals_more : (x : LoggedEvent) (xs : List LoggedEvent) (i n : ℕ) → i ≤ caller_of x.event → caller_of x.event < i + n → totals (x ∷ xs) i n ≡ suc (totals xs i n)
-totals_more x xs i zero l u = absurd (omega (arith, l, u))
-totals_more x xs i (suc n) l u = ⊎_elim
-    (λ (e : caller_of x.event ≡ i).
-    let own = own_more x xs i e in
-    let rest = totals_other x xs (i + 1) n (omega (arith, e)) in
-    omega (arith, own, rest))
-    (λ (ne : caller_of x.event ≡ i → ⊥).
-    let own = own_other x xs i ne in
-    let rest = totals_more x xs (i + 1) n (omega (arith, l, ne)) (omega (arith, u)) in
-    omega (arith, own, rest))
-    (cases_eq (caller_of x.event) i)
-
-totals_none : (i n : ℕ) → totals [] i n ≡ 0
-totals_none i zero = refl
-totals_none i (suc n) = let h = totals_none (i + 1) n in omega (arith, h)
-
 abbrev IsOfFirst : ℕ → LoggedEvent → Type 0
 IsOfFirst n x = caller_of x.event < n
-
--- Each event has one of the first n callers.
-all_counted : (xs : List LoggedEvent) (n : ℕ) → AllByRecursion (IsOfFirst n) xs → length xs ≡ totals xs 0 n
-all_counted [] n h = sym (totals_none 0 n)
-all_counted (x ∷ xs) n h =
-    let c = h.0 in
-    ap suc (all_counted xs n h.1) ∙ sym (totals_more x xs 0 n (omega arith) (omega (arith, c)))
 
 abbrev IsBorneByFirst : ℕ → ℕ → Type 0
 IsBorneByFirst n w = caller_of_word w < n
@@ -94,21 +53,17 @@ borne_both n (v ∷ vs) ws p q = (let z = p.0 in omega (arith, z), borne_both n 
 
 -- ---- the need is enough for all callers
 
-at_least : (n : ℕ) (ss : List SectionOf) → n ≤ most_from n ss
-at_least n [] = omega arith
-at_least n (s ∷ ss) = let h = at_least (max n (most_section_events s)) ss in omega (arith, h)
+-- what an event counts
+abbrev one_each : LoggedEvent → ℕ
+one_each x = 1
 
-abbrev HasAtMost : ℕ → SectionOf → Type 0
-HasAtMost most s = most_section_events s ≤ most
+caller_within : (xs : List LoggedEvent) (i : ℕ) (s : SectionOf) → IsSome (section_end i s (events_by i xs)) → sum_by one_each (events_by i xs) ≤ most_section_events s
+caller_within xs i s h = subst (λ n. n ≤ most_section_events s) (length_sum (events_by i xs)) (record_short i s (events_by i xs) h)
 
-each_within : (n : ℕ) (ss : List SectionOf) → AllByRecursion (HasAtMost (most_from n ss)) ss
-each_within n [] = tt
-each_within n (s ∷ ss) = (let h = at_least (max n (most_section_events s)) ss in omega (arith, h), each_within (max n (most_section_events s)) ss)
-
-lanes_within : (xs : List LoggedEvent) (i most : ℕ) (ss : List SectionOf) → HaveRecords xs i ss → AllByRecursion (HasAtMost most) ss → totals xs i (length ss) ≤ length ss * most
+lanes_within : (xs : List LoggedEvent) (i most : ℕ) (ss : List SectionOf) → HaveRecords xs i ss → AllByRecursion (HasAtMost most) ss → totals one_each xs i (length ss) ≤ length ss * most
 lanes_within xs i most [] h few = omega arith
 lanes_within xs i most (s ∷ ss) h few =
-    let first = record_short i s (events_by i xs) h.0 in
+    let first = caller_within xs i s h.0 in
     let l = few.0 in
     let rest = lanes_within xs (i + 1) most ss h.1 few.1 in
     omega (arith, first, l, rest)
@@ -122,8 +77,8 @@ legal_is_short script words legal =
     let logged : length xs ≡ length words = sym (length-map xs event_line) ∙ as_many_lines state_after_word reply_to_word 0 (fabric_at_reset script.shapes) words legal.events in
     let o = legal.order in
     let borne = subst (AllByRecursion (IsBorneByFirst (suc n))) (sym o.is) (borne_both n o.boot o.others o.of_boot o.of_lanes) in
-    let all = all_counted xs (suc n) (callers_of_words (suc n) 0 (fabric_at_reset script.shapes) words legal.events borne) in
+    let all : length xs ≡ totals one_each xs 0 (suc n) = length_sum xs ∙ sum_is one_each xs (suc n) (callers_of_words (suc n) 0 (fabric_at_reset script.shapes) words legal.events borne) in
     let above : least ≤ most = at_least least script.lanes in
-    let boot = record_short 0 script.boot (events_by 0 xs) legal.boot_record in
-    let rest : totals xs 1 n ≤ n * most = lanes_within xs 1 most script.lanes legal.lane_records (each_within least script.lanes) in
+    let boot = caller_within xs 0 script.boot legal.boot_record in
+    let rest : totals one_each xs 1 n ≤ n * most = lanes_within xs 1 most script.lanes legal.lane_records (each_within least script.lanes) in
     omega (arith, logged, all, above, boot, rest)

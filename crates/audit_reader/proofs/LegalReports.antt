@@ -13,6 +13,7 @@ use Rattle.unit_core.specs.Units.{UnitState, FabricState}
 use Rattle.unit_core.specs.Fabrics.{error_words}
 use Rattle.unit_core.specs.Histories.{logged_in, units_after, HasRecord, HaveRecords, IsLegalHistory}
 use Rattle.event_words.specs.ReportLines.{count_line, event_line, section_line}
+use Rattle.event_words.proofs.ListItems.{all_append}
 use Rattle.unit_core.specs.Reports.{section_lines, unit_line, unit_lines, report_text}
 use Rattle.script_reader.specs.Scripts.{ScriptOf}
 use Rattle.script_reader.specs.ReportTexts.{fed_lines, with_byte}
@@ -116,10 +117,6 @@ legal_so_far script words legal = record {
   lane_records = begin_themselves (logged_in script.shapes words) 1 script.lanes legal.lane_records;
 }
 
-all_both : {A : Type 0} (P : A → Type 0) (xs ys : List A) → AllByRecursion P xs → AllByRecursion P ys → AllByRecursion P (xs ++ ys)
-all_both P [] ys p q = q
-all_both P (x ∷ xs) ys p q = (p.0, all_both P xs ys p.1 q)
-
 end_line : (i : ℕ) (o : Option SectionEnd) → IsSome o → IsLine (section_line i o)
 end_line i None h = absurd (let n : false ≡ true = h in cc)
 end_line i (Some end) h = section_is_line i end
@@ -137,9 +134,9 @@ pub report_fed : (script : ScriptOf) (bytes : List ℕ) (l : IsLegalReport scrip
 report_fed script bytes l =
     let words = l.words in
     let events = logged_in script.shapes words in
-    let last = all_both IsLine (error_lines 0 (units_after script.shapes words)) (codes "end\n" ∷ []) (errors_are_lines 0 (units_after script.shapes words)) (last_is_line, tt) in
-    let ended = all_both IsLine (end_lines events 0 (script.boot ∷ script.lanes)) _ (ends_are_lines events 0 (script.boot ∷ script.lanes) (l.legal.boot_record, l.legal.lane_records)) last in
-    let lines : AllByRecursion IsLine (report_lines script (length words) words) = (count_is_line (length words), all_both IsLine (map event_line events) _ (events_are_lines events) ended) in
+    let last = all_append IsLine (error_lines 0 (units_after script.shapes words)) (codes "end\n" ∷ []) (errors_are_lines 0 (units_after script.shapes words)) (last_is_line, tt) in
+    let ended = all_append IsLine (end_lines events 0 (script.boot ∷ script.lanes)) _ (ends_are_lines events 0 (script.boot ∷ script.lanes) (l.legal.boot_record, l.legal.lane_records)) last in
+    let lines : AllByRecursion IsLine (report_lines script (length words) words) = (count_is_line (length words), all_append IsLine (map event_line events) _ (events_are_lines events) ended) in
     ap fed_lines (l.printed ∙ sym (report_concat script words)) ∙ fed_concat (report_lines script (length words) words) lines
 
 -- Of a legal report no line is bad that is there, and the line that is found is there.

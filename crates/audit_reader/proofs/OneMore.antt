@@ -13,6 +13,7 @@ use Rattle.event_words.specs.Sections.{SectionOf}
 use Rattle.event_words.specs.Records.{section_end, events_by, is_by}
 use Rattle.event_words.proofs.Runs.{run-snoc, logged_from-append, events_by-append, event_of_word-word_of, events-of-beginning}
 use Rattle.event_words.proofs.OwnEvents.{own, foreign, is_own, is_below, is_above}
+use Rattle.event_words.proofs.ListItems.{all_after}
 use Rattle.section_cursor.specs.Cursors.{CursorOf, rest_end, HasAllTries, Allows}
 use Rattle.section_cursor.specs.ValidEvents.{HasValidEvents}
 use Rattle.unit_core.specs.Units.{FabricState, fabric_at_reset}
@@ -21,6 +22,7 @@ use Rattle.unit_core.specs.Histories.{logged_in, BootComesFirst, HasRecord, IsBo
 use Rattle.script_reader.specs.Scripts.{ScriptOf}
 use Rattle.audit_reader.specs.Beginnings.{IsLegalSoFar, BeginRecords, IsOfSomeLane}
 use Rattle.audit_reader.specs.Following.{Follows, Follow, AreInOrder, IsSeen, entry_after, state_after}
+use Rattle.audit_reader.proofs.EqualLines.{first_same, rest_same}
 
 -- ---- what is logged
 
@@ -140,31 +142,17 @@ boot_over (c ∷ cs) script words d f = f.0.rest [] ∙ ap (section_end 0 script
 
 -- ---- the order
 
-pub all_more : (P : ℕ → Type 0) (ws : List ℕ) (w : ℕ) → AllByRecursion P ws → P w → AllByRecursion P (ws ++ w ∷ [])
-all_more P [] w h p = (p, tt)
-all_more P (v ∷ ws) w h p = (h.0, all_more P ws w h.1 p)
-
-all_after : (P : ℕ → Type 0) (ws vs : List ℕ) → AllByRecursion P (ws ++ vs) → AllByRecursion P vs
-all_after P [] vs h = h
-all_after P (w ∷ ws) vs h = all_after P ws vs h.1
-
 pub no_lane : (words : List ℕ) → AllByRecursion IsBoot words → Any IsOfSomeLane words → ⊥
 no_lane [] boot (k, x, l, e, p) = absurd (omega (arith, l))
 no_lane (w ∷ ws) boot (zero, x, l, e, p) = let none : caller_of_word x ≡ 0 = ap caller_of_word (sym e) ∙ boot.0 in absurd (omega (arith, none, p))
 no_lane (w ∷ ws) boot (suc k, x, l, e, p) = no_lane ws boot.1 (k, x, omega (arith, l), e, p)
 
-first_of : (x y : ℕ) (xs ys : List ℕ) → x ∷ xs ≡ y ∷ ys → x ≡ y
-first_of x y xs ys e = ap (λ l. get_or l 0 0) e
-
-rest_of : (x y : ℕ) (xs ys : List ℕ) → x ∷ xs ≡ y ∷ ys → xs ≡ ys
-rest_of x y xs ys e = cc
-
 -- a lane's word and all after it are lanes'
 pub lanes_from : (lanes : ℕ) (boot others ws : List ℕ) (w : ℕ) (more : List ℕ) → ws ++ w ∷ more ≡ boot ++ others → AllByRecursion IsBoot boot → AllByRecursion (IsOfLane lanes) others → 1 ≤ caller_of_word w
     → AllByRecursion (IsOfLane lanes) (w ∷ more)
 lanes_from lanes [] others ws w more e b o h = all_after (IsOfLane lanes) ws (w ∷ more) (subst (AllByRecursion (IsOfLane lanes)) (sym e) o)
-lanes_from lanes (x ∷ boot) others [] w more e b o h = let z : caller_of_word w ≡ 0 = ap caller_of_word (first_of w x _ _ e) ∙ b.0 in absurd (omega (arith, z, h))
-lanes_from lanes (x ∷ boot) others (v ∷ ws) w more e b o h = lanes_from lanes boot others ws w more (rest_of v x _ _ e) b.1 o h
+lanes_from lanes (x ∷ boot) others [] w more e b o h = let z : caller_of_word w ≡ 0 = ap caller_of_word (first_same w x _ _ e) ∙ b.0 in absurd (omega (arith, z, h))
+lanes_from lanes (x ∷ boot) others (v ∷ ws) w more e b o h = lanes_from lanes boot others ws w more (rest_same v x _ _ e) b.1 o h
 
 none_of_boot : (lanes : ℕ) (ws : List ℕ) → AllByRecursion (IsOfLane lanes) ws → filter (λ w. caller_of_word w == 0) ws ≡ []
 none_of_boot lanes [] h = refl

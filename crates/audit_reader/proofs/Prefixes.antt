@@ -1,7 +1,7 @@
 -- A text that another begins with.
 use Rattle.std.proofs.Common.{◌≡◌, ℕ, zero, suc, ◌<◌, ◌-◌, arith, ◌++◌, Bool, true, false, List, length, take, drop, refl, sym, ap, ◌∙◌, length-drop}
 use Rattle.std.specs.Prelude.{not, ◌==◌}
-use Rattle.std.proofs.lemmas.Bool.{eq-eqb, eqb-true}
+use Rattle.std.proofs.lemmas.Bool.{eq-eqb, eqb-true, not-true, not-false}
 use lib.Pointwise.{pointwise}
 use lib.Dec.{eqb}
 use Rattle.std.specs.Cmp.Lexicographic.{same_text, other_text}
@@ -22,19 +22,11 @@ after_front text front e =
 
 -- ---- comparisons
 
-not_true : (b : Bool) → not b ≡ true → false ≡ b
-not_true true h = h
-not_true false h = refl
-
-not_false : (b : Bool) → not b ≡ false → true ≡ b
-not_false true h = refl
-not_false false h = h
-
 pub other : (r : Bool) (xs ys : List ℕ) → r ≡ not (pointwise eqb xs ys) → r ≡ true → xs ≡ ys → ⊥
-other r xs ys d h e = other_text xs ys (not_true (pointwise eqb xs ys) (sym d ∙ h)) e
+other r xs ys d h e = other_text xs ys (sym (not-true (pointwise eqb xs ys) (sym d ∙ h))) e
 
 pub same : (r : Bool) (xs ys : List ℕ) → r ≡ not (pointwise eqb xs ys) → r ≡ false → xs ≡ ys
-same r xs ys d h = same_text xs ys (not_false (pointwise eqb xs ys) (sym d ∙ h))
+same r xs ys d h = same_text xs ys (sym (not-false (pointwise eqb xs ys) (sym d ∙ h)))
 
 -- ---- whether something is left
 

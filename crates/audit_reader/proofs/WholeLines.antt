@@ -5,7 +5,7 @@ use Rattle.std.specs.Char.{digit_value}
 use Rattle.std.specs.Fmt.{digits, digits_onto, digit_glyph}
 use Rattle.std.specs.List.{AllByRecursion, list_all, concat}
 use Rattle.std.specs.Str.Parse.{AllDigits}
-use Rattle.std.proofs.lemmas.Bool.{ne_eqb}
+use Rattle.std.proofs.lemmas.Bool.{ne_eqb, and_from}
 use Rattle.std.proofs.lemmas.List.Folds.{list_all-append}
 use Rattle.std.proofs.lemmas.Str.{digit_value-digit_char}
 use Rattle.event_words.specs.Texts.{hexadecimal}
@@ -24,12 +24,8 @@ pub record IsPlain (text : List ℕ) : Type 0 where
 pub given : (text : List ℕ) → list_all is_no_feed text ≡ true → IsPlain text
 given text h = record { all = h }
 
-all_of_both : (a b : Bool) → a ≡ true → b ≡ true → (a && b) ≡ true
-all_of_both true b p q = q
-all_of_both false b p q = p
-
 pub plain_both : (a b : List ℕ) → IsPlain a → IsPlain b → IsPlain (a ++ b)
-plain_both a b p q = given (a ++ b) (list_all-append is_no_feed a b ∙ all_of_both _ _ p.all q.all)
+plain_both a b p q = given (a ++ b) (list_all-append is_no_feed a b ∙ and_from _ _ p.all q.all)
 
 pub plain_choice : (t : Bool) (a b : List ℕ) → IsPlain a → IsPlain b → IsPlain (cond t a b)
 plain_choice true a b p q = p
@@ -41,7 +37,7 @@ digit_plain c h = ap not (ne_eqb c 10 (λ e. let same : digit_value c ≡ 36 = a
 
 digits_plain : (ds : List ℕ) → AllDigits 16 ds → list_all is_no_feed ds ≡ true
 digits_plain [] h = refl
-digits_plain (c ∷ cs) h = all_of_both _ _ (digit_plain c h.0) (digits_plain cs h.1)
+digits_plain (c ∷ cs) h = and_from _ _ (digit_plain c h.0) (digits_plain cs h.1)
 
 fewer : (ds : List ℕ) → AllDigits 10 ds → AllDigits 16 ds
 fewer [] h = tt

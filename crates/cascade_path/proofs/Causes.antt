@@ -22,9 +22,9 @@ use Rattle.cascade_path.specs.Stages.{is_undecided, waits}
 pub count-append : {X : Type 0} (p : X → Bool) (xs ys : List X) → count_by p (xs ++ ys) ≡ count_by p xs + count_by p ys
 count-append p xs ys = sum_by-append (λ x. cond (p x) 1 0) xs ys
 
-pub last-append : {X : Type 0} (o : Option X) (xs : List X) (y : X) → last_or o (xs ++ y ∷ []) ≡ Some y
-last-append o [] y = refl
-last-append o (x ∷ xs) y = last-append (Some x) xs y
+pub last_behind : {X : Type 0} (o : Option X) (xs : List X) (y : X) (ys : List X) → last_or o (xs ++ y ∷ ys) ≡ last_or (Some y) ys
+last_behind o [] y ys = refl
+last_behind o (x ∷ xs) y ys = last_behind (Some x) xs y ys
 
 -- ---- kinds of answers, whatever the stage
 

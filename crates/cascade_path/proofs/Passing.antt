@@ -1,10 +1,10 @@
 -- The stages of a chain, one after another.
-use Rattle.std.proofs.Common.{◌≡◌, ℕ, ◌+◌, ◌*◌, ◌<◌, ◌≤◌, Bool, true, false, cond, List, [], ◌∷◌, ◌++◌, length, get_or, drop, length-drop, Option, Some, None, eqb, refl, sym, ap, ◌∙◌, subst, arith, length-append, append_assoc, eq-eqb, ne_eqb, add-one}
+use Rattle.std.proofs.Common.{◌≡◌, ℕ, ◌+◌, ◌*◌, ◌<◌, ◌≤◌, Bool, true, false, cond, List, [], ◌∷◌, ◌++◌, length, get_or, drop, Option, Some, None, eqb, refl, sym, ap, ◌∙◌, subst, arith, length-append, append_assoc, eq-eqb, ne_eqb}
 use Rattle.std.specs.Prelude.{◌||◌, count_by, option_and_then}
 use Rattle.std.specs.List.{list_all, list_any, last_or}
 use Rattle.std.proofs.Math.Bool.{or-false}
 use Rattle.std.proofs.Math.Nat.{add-mul, mul-le-mul_right}
-use Rattle.std.proofs.Math.Seq.{drop-cons}
+use Rattle.std.proofs.lemmas.List.{drop_more, drop_all}
 use Rattle.std.proofs.lemmas.List.Folds.{list_any-append}
 use Rattle.event_words.specs.declared.access.Access.{Access}
 use Rattle.event_words.specs.declared.reply.Reply.{Reply}
@@ -19,7 +19,7 @@ use Rattle.cascade_path.specs.Answers.{event_answer, is_beginning, last_stage, c
 use Rattle.cascade_path.specs.Chains.{SendsThrough}
 use Rattle.cascade_path.specs.Stages.{PassesStage, allowed_next, waits}
 use Rattle.cascade_path.proofs.Making.{makes_none, makes_both, same_number}
-use Rattle.cascade_path.proofs.Causes.{IsKind, IsClosedKind, count-append, last-append, decides_at, none_waiting, count_waiting}
+use Rattle.cascade_path.proofs.Causes.{IsKind, IsClosedKind, count-append, decides_at, none_waiting, count_waiting, last_behind}
 
 -- ---- the kinds
 
@@ -65,7 +65,7 @@ counted made earlier last stage i answer so_far wait decided =
     omega (arith, count-append (decides is_allowed) made (earlier ++ last ∷ []), count-append (decides is_allowed) earlier (last ∷ []), count_waiting is_allowed (λ s p. refl) earlier wait)
 
 is_last : (made earlier : List LoggedEvent) (last : LoggedEvent) → last_or None (made ++ (earlier ++ last ∷ [])) ≡ Some last
-is_last made earlier last = ap (last_or None) (sym (append_assoc made earlier (last ∷ []))) ∙ last-append None (made ++ earlier) last
+is_last made earlier last = ap (last_or None) (sym (append_assoc made earlier (last ∷ []))) ∙ last_behind None (made ++ earlier) last []
 
 begun : (made whole : List LoggedEvent) (i : ℕ) → count_by is_beginning made ≡ i → count_by is_beginning whole ≡ 1 → count_by is_beginning (made ++ whole) ≡ i + 1
 begun made whole i a b = count-append is_beginning made whole ∙ (omega arith)
@@ -88,8 +88,7 @@ next_record : (n tries : ℕ) (a : Access) (stages : List ℕ) (i requester : �
     → one_stage n tries (get_or stages i 0) (record a { rrid = requester }) (through_stages n tries a (drop (i + 1) stages)) (whole ++ rest) ≡ stage_following (through_stages n tries a (drop (i + 1) stages)) next rest
     → through_stages n tries a (drop i stages) requester (whole ++ rest) ≡ stage_following (through_stages n tries a (drop (i + 1) stages)) next rest
 next_record n tries a stages i requester whole next rest h is =
-    let e : drop i stages ≡ get_or stages i 0 ∷ drop (i + 1) stages = drop-cons stages i 0 h ∙ ap (λ (k : ℕ). get_or stages i 0 ∷ drop k stages) (sym (add-one i)) in
-    ap (λ (l : List ℕ). through_stages n tries a l requester (whole ++ rest)) e ∙ is
+    ap (λ (l : List ℕ). through_stages n tries a l requester (whole ++ rest)) (drop_more stages i 0 h) ∙ is
 
 -- The last event so far allowed, at the stage before this one.
 pub record LastAllows (made : List LoggedEvent) (i requester : ℕ) : Type 0 where
@@ -98,12 +97,6 @@ pub record LastAllows (made : List LoggedEvent) (i requester : ℕ) : Type 0 whe
   pub stage : ℕ
   pub before : stage + 1 ≡ i
   pub allows : event_answer stage last ≡ Some (Allowed requester)
-
-drop_all : (xs : List ℕ) (i : ℕ) → length xs ≤ i → drop i xs ≡ []
-drop_all xs i h = none (drop i xs) (omega (arith, length-drop i xs)) where
-  none : (l : List ℕ) → length l ≡ 0 → l ≡ []
-  none [] h = refl
-  none (x ∷ l) h = absurd (omega arith)
 
 -- a stage more fits into the events that are left
 pub room_left : (i k n : ℕ) → i < k → i * n + n ≤ k * n
@@ -211,7 +204,7 @@ module _ {M S : Type 0} (after : S → ℕ → ℕ → S) (reply : S → ℕ →
         made = b.made;
         adds = b.adds;
         few = subst (λ (k : ℕ). length b.made ≤ k * (submission_events access + tries)) same b.few;
-        record_is = λ rest. b.so_far rest ∙ ap (λ (l : List ℕ). through_stages c.number tries access l requester rest) (drop_all stages i low);
+        record_is = λ rest. b.so_far rest ∙ ap (λ (l : List ℕ). through_stages c.number tries access l requester rest) (drop_all i stages low);
         decided = answered b.made latest.last latest.stage (Allowed requester) latest.is (b.beginnings ∙ sym stage) latest.allows;
         cause = record {
           allowed = sym (ap (λ (k : ℕ). eqb k (length stages)) b.allowed ∙ eq-eqb i (length stages) same);

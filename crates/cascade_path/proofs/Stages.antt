@@ -1,8 +1,9 @@
 -- The events of one stage.
 use Rattle.std.proofs.Common.{◌≡◌, ℕ, ◌+◌, ◌-◌, Bool, true, false, cond, List, [], ◌∷◌, ◌++◌, length, Option, Some, None, refl, sym, ap, ◌∙◌, subst, arith, length-append, append-nil, append_assoc, ◌⊎◌, ⊎_elim}
+use Rattle.std.proofs.lemmas.List.Folds.{list_all-append}
 use Rattle.std.specs.Prelude.{nat_le, count_by}
 use Rattle.std.specs.List.{AllByRecursion, list_all}
-use Rattle.std.proofs.lemmas.Bool.{and_from, and_parts}
+use Rattle.std.proofs.lemmas.Bool.{and_from}
 use Rattle.event_words.specs.declared.access.Access.{Access}
 use Rattle.event_words.specs.declared.event.Event.{Event}
 use Rattle.event_words.specs.declared.event.Event.TheVariants as events
@@ -116,10 +117,6 @@ without_rest : (before made held : List LoggedEvent) (x last : LoggedEvent) → 
 without_rest before made held x last is =
     append_assoc before (x ∷ []) made ∙ ap (λ (l : List LoggedEvent). before ++ x ∷ l) is ∙ sym (append_assoc before (x ∷ held) (last ∷ []))
 
-all_both : (xs ys : List LoggedEvent) → list_all waits xs ≡ true → list_all waits ys ≡ true → list_all waits (xs ++ ys) ≡ true
-all_both [] ys a b = b
-all_both (x ∷ xs) ys a b = let p = and_parts (waits x) (list_all waits xs) a in and_from (waits x) (list_all waits (xs ++ ys)) p.0 (all_both xs ys p.1 b)
-
 module _ {M S : Type 0} (after : S → ℕ → ℕ → S) (reply : S → ℕ → ℕ → Reply) where
   -- an aim that was refused
   pub passes_unaimed : (c d : CallerView M S) (stage unit : ℕ) (a : Access) (tries : ℕ) (answer : ChainReply) → MissesAim after reply c stage a answer d → PassesStage after reply c stage unit a tries answer d
@@ -170,7 +167,7 @@ module _ {M S : Type 0} (after : S → ℕ → ℕ → S) (reply : S → ℕ →
             ∙ taken_piece stage c.number tries unit place x last j.made j.record_is is_taken_here there go rest;
         beginnings = let b = begins_once unit c.number a s.before x s.is in let n = judgements_begin_none unit c.number place js.held js.last js.all_held js.event in
             ap (count_by is_beginning) (sym whole) ∙ ap (λ (l : List LoggedEvent). count_by is_beginning (first ++ l)) js.is ∙ count-append is_beginning first (js.held ++ js.last ∷ []) ∙ (omega arith);
-        waiting = all_both s.before (x ∷ js.held) (before_waits unit c.number a s.before x s.is)
+        waiting = list_all-append waits s.before (x ∷ js.held) ∙ and_from _ _ (before_waits unit c.number a s.before x s.is)
             (and_from (waits x) (list_all waits js.held) (ap is_undecided (submission_decides unit c.number a s.before x 0 s.is) ∙ taken_waits x.reply is_taken_here) (held_wait unit c.number place js.held js.all_held));
         decided = last_decides stage unit c.number place js.last last js.event js.reply_is;
       }

@@ -3,7 +3,7 @@
 use Rattle.std.proofs.Common.{◌≡◌, ℕ, suc, ◌+◌, ◌^◌, ◌<◌, ◌≤◌, Bool, true, false, cond, List, [], ◌∷◌, ◌++◌, length, set, Option, Some, None, eqb, refl, sym, ap, ◌∙◌, arith}
 use Rattle.std.specs.Prelude.{slice_index, if◌then◌else◌}
 use Rattle.std.proofs.lemmas.Bool.{eqb-true, eq-eqb, le-leb}
-use Rattle.std.proofs.lemmas.List.{get_or-set_same, get_or-set_other, length-set, length-replicate}
+use Rattle.std.proofs.lemmas.List.{get_or-set_same, get_or-set_other, length-replicate}
 use Rattle.event_words.specs.declared.access.Access.{Access}
 use Rattle.event_words.specs.declared.event.Event.{Event}
 use Rattle.event_words.specs.declared.event.Event.TheVariants as events
@@ -19,6 +19,7 @@ use Rattle.unit_core.specs.Units.{FabricState, aim_of, aims_after, no_aims, subm
 use Rattle.unit_core.specs.Fabrics.{state_after_word, reply_to_word}
 use Rattle.checker_workers.specs.Ports.{PortView, IsAtReset, MakesEvent, port_events, state_after, unit_count}
 use Rattle.checker_workers.proofs.Making.{Answers, answers, ComesAs}
+use Rattle.history_laws.proofs.AimLaw.{after_len}
 
 abbrev Events : Type 0
 Events = List LoggedEvent
@@ -46,10 +47,6 @@ own_aim aims c _ h is = refl
 other_aim : (aims : List ℕ) (c : ℕ) (e : Event) → (caller_of e ≡ c → ⊥) → aim_of (aims_after aims e) c ≡ aim_of aims c
 other_aim aims c (events.Aim d a) ne = get_or-set_other aims d c a 0 (λ s. ne (sym s))
 other_aim aims c _ ne = refl
-
-event_aims : (aims : List ℕ) (e : Event) → length (aims_after aims e) ≡ length aims
-event_aims aims (events.Aim d a) = length-set aims d a
-event_aims aims _ = refl
 
 -- ---- words
 
@@ -80,7 +77,7 @@ kept c k s w ws e b is rest here =
 goes : (c k : ℕ) (s : FabricState) (w : ℕ) (ws : List ℕ) → c < length s.aims → ((next : FabricState) → c < length next.aims → AimsSo c (suc k) next ws) → (o : Option Event) → Goes c k s w ws o
 goes c k s w ws h rest None = rest s h
 goes c k s w ws h rest (Some e) =
-    let later : AimsSo c (suc k) (fabric_step k s e).0 ws = rest (fabric_step k s e).0 (let l = event_aims s.aims e in omega arith) in
+    let later : AimsSo c (suc k) (fabric_step k s e).0 ws = rest (fabric_step k s e).0 (let l = after_len s.aims e in omega arith) in
     by_test (eqb (caller_of e) c) _
     (λ own. kept c k s w ws e true own later (own_aim s.aims c e h (eqb-true (caller_of e) c own)))
     (λ other. kept c k s w ws e false other later (other_aim s.aims c e (λ is. let n : true ≡ false = sym (eq-eqb (caller_of e) c is) ∙ other in cc)))

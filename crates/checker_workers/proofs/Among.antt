@@ -5,7 +5,7 @@ use Rattle.event_words.specs.declared.event.Event.{Event}
 use Rattle.event_words.specs.declared.record.LoggedEvent.{LoggedEvent}
 use Rattle.event_words.specs.Events.{caller_of}
 use Rattle.event_words.specs.Records.{events_by}
-use Rattle.event_words.specs.Runs.{run, run_from, logged_from, logged_first}
+use Rattle.event_words.specs.Runs.{run, run_from, logged_from, logged_first, IsEventWord}
 use Rattle.event_words.specs.Valid.{IsValidEvent}
 use Rattle.event_words.specs.Word.{word_of}
 use Rattle.event_words.proofs.Runs.{run_from-append, run-snoc, logged_from-append, events_by-append}
@@ -13,9 +13,10 @@ use Rattle.unit_core.specs.Units.{FabricState}
 use Rattle.unit_core.specs.Fabrics.{FabricView, state_after_word, reply_to_word}
 use Rattle.shared_log.specs.Callers.{AfterCall}
 use Rattle.shared_log.specs.Words.{AllEventWords}
-use Rattle.shared_log.proofs.WordLists.{AllEventWords-left, AllEventWords-right}
+use Rattle.shared_log.proofs.WordLists.{AllEventWords-left}
 use Rattle.event_words.proofs.EventWords.{HasEvent, word_event}
 use Rattle.event_words.proofs.Cases.{by_test}
+use Rattle.event_words.proofs.ListItems.{all_after}
 use Rattle.checker_workers.specs.Ports.{PortView, MakesEvent, port_events}
 use Rattle.checker_workers.proofs.Making.{makes_event}
 
@@ -160,7 +161,7 @@ pub record StandsAmong (p q : PortView) (before : Events) (x : LoggedEvent) (lat
 pub stands : (p q : PortView) (before : Events) (x : LoggedEvent) (later : Events) → Extends p (before ++ x ∷ later) q → AllEventWords q.log → StandsAmong p q before x later
 stands p q before x later h all =
     let s : FabricState = run state_after_word p.first p.log in
-    let t = cut_at p.number (length p.log) s h.words before x later (AllEventWords-right p.log h.words (subst AllEventWords h.log all)) h.own in
+    let t = cut_at p.number (length p.log) s h.words before x later (all_after IsEventWord p.log h.words (subst AllEventWords h.log all)) h.own in
     let w : ℕ = word_of x.event in
     let log : List ℕ = p.log ++ t.earlier in
     let longer : List ℕ = log ++ w ∷ [] in

@@ -19,6 +19,7 @@ use Rattle.event_words.specs.Sections.{IsBelow}
 use Rattle.event_words.specs.Valid.{IsValidEvent}
 use Rattle.event_words.specs.Word.{event_of_word}
 use Rattle.event_words.proofs.Cases.{by_test}
+use Rattle.event_words.proofs.ListItems.{all_after}
 use Rattle.unit_core.specs.Units.{FabricState}
 use Rattle.unit_core.specs.Fabrics.{state_after_word, reply_to_word}
 use Rattle.shared_log.specs.Words.{AllEventWords}
@@ -28,7 +29,7 @@ use Rattle.cascade_path.specs.declared.chain.ChainReply.TheVariants.{Allowed, Od
 use Rattle.cascade_path.specs.Answers.{aim_answer, submission_answer, judgement_answer, answer_to, event_answer, last_stage, chain_reply, is_odd, is_some_of}
 use Rattle.cascade_path.specs.Chains.{SendsThrough}
 use Rattle.cascade_path.specs.Stages.{IsNarrowSubmission, IsWideSubmission, IsSubmission}
-use Rattle.cascade_path.proofs.Causes.{last-append}
+use Rattle.cascade_path.proofs.Causes.{last_behind}
 use Rattle.cascade_path.proofs.LastStage.{LastStage, EndsUnaimed, EndsRefused, EndsJudged, borne_by, last_stage_of}
 use Rattle.cascade_path.proofs.Submitting.{Go, StageRefused, StageSubmitted, stage_begins, submission_decides}
 use Rattle.cascade_path.proofs.Turns.{IsHeldJudgement, AreJudgements, BeginsWithJudgements, begins_with_judgements}
@@ -70,7 +71,7 @@ plain_judgement stage place r judged small = ⊎_elim
 -- The answer is that of the last event.
 last_decides : (made first : Events) (last : LoggedEvent) (answer : ChainReply) → made ≡ first ++ last ∷ [] → chain_reply made ≡ Some answer → is_odd answer ≡ is_some_of is_odd (event_answer (last_stage made) last)
 last_decides made first last answer is decided =
-    let there : last_or None made ≡ Some last = ap (last_or None) is ∙ last-append None first last in
+    let there : last_or None made ≡ Some last = ap (last_or None) is ∙ last_behind None first last [] in
     ap (is_some_of is_odd) (sym decided ∙ ap (option_and_then (event_answer (last_stage made))) there)
 
 -- An event that decides, and not oddly, is no Aim.
@@ -246,10 +247,6 @@ first_past k n c r (Some e) xs h rest = by_past k c (record { place = n; event =
 all_past : (k n c : ℕ) (s : FabricState) (words : List ℕ) → k ≤ n → AllByRecursion (IsPast k) (events_by c (logged_from state_after_word reply_to_word n s words))
 all_past k n c s [] h = tt
 all_past k n c s (w ∷ ws) h = first_past k n c (reply_to_word s n w) (event_of_word w) (logged_from state_after_word reply_to_word (suc n) (state_after_word s n w) ws) h (all_past k (suc n) c (state_after_word s n w) ws (omega arith))
-
-all_after : (P : LoggedEvent → Type 0) (xs ys : Events) → AllByRecursion P (xs ++ ys) → AllByRecursion P ys
-all_after P [] ys h = h
-all_after P (x ∷ xs) ys h = all_after P xs ys h.1
 
 aim_ends : (u : TicketView) (n addr : ℕ) (x : LoggedEvent) → x.event ≡ events.Aim n addr → is_end u x ≡ false
 aim_ends u n addr x is = ends_other u x (ap (same_event (judgement u)) is)

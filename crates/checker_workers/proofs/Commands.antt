@@ -12,8 +12,9 @@ use Rattle.event_words.specs.declared.record.LoggedEvent.{LoggedEvent}
 use Rattle.event_words.specs.declared.section.Command.{Command}
 use Rattle.event_words.specs.declared.section.Command.TheVariants as commands
 use Rattle.event_words.specs.declared.section.Stages.{Stages}
-use Rattle.event_words.specs.Records.{OpenSlot, Cut, take_event, take_event_after, take_submission, wide_event, is_taken, one_piece, submit_piece, settle_piece, settled, until_piece, through_piece, opened_slot, slot_of, judgements}
-use Rattle.event_words.specs.Sections.{NamesUnits, stage_units, submission_events}
+use Rattle.event_words.specs.Records.{OpenSlot, Cut, take_event, take_event_after, take_submission, wide_event, is_taken, one_piece, submit_piece, settle_piece, settled, until_piece, through_piece, opened_slot, slot_of, judgements, piece}
+use Rattle.event_words.specs.Sections.{NamesUnits, stage_units, submission_events, most_events}
+use Rattle.event_words.specs.Events.{same_event}
 use Rattle.cascade_path.specs.declared.chain.ChainReply.{ChainReply}
 use Rattle.cascade_path.specs.Stages.{IsSubmission}
 use Rattle.cascade_path.proofs.Submitting.{submission_count}
@@ -31,6 +32,7 @@ use Rattle.checker_workers.proofs.Resting.{ends_one}
 use Rattle.checker_workers.proofs.Submitting.{SubmissionMade, submission_made}
 use Rattle.checker_workers.proofs.Tables.{slot_of-slots, slots_of-append, slots_of-set, set_back, table_without, table_kept, table_back, table_pushed, others_apart, IsNewSlot}
 use Rattle.checker_workers.proofs.Turns.{made_by, makes_none, makes_one, ends_other, none_more}
+use Rattle.checker_workers.proofs.Standing.{judgement}
 
 abbrev Table : Type 0
 Table = List (Option TicketView)
@@ -40,31 +42,27 @@ Slots = List (Option OpenSlot)
 
 -- ---- writes and reads
 
-pub plays_write : (p q : PortView) (table : Table) (unit index value : ℕ) (r : Reply) → MakesEvent p (events.RegWrite unit p.number index value) r q → IsTicketTable p table → PlaysCommand p table (commands.Write unit index value) q table false
-plays_write p q table unit index value r m h =
-    let e : Event = events.RegWrite unit p.number index value in
+-- a command of one event, which ends no ticket
+plays_one : (p q : PortView) (table : Table) (command : Command) (e : Event) (r : Reply) → MakesEvent p e r q → IsTicketTable p table → is_aim e ≡ false → ((t : TicketView) → same_event (judgement t) e ≡ false) → 1 ≤ most_events command
+    → ((xs : List LoggedEvent) → piece p.number (slots_of table) command xs ≡ one_piece (slots_of table) (take_event e xs)) → PlaysCommand p table command q table false
+plays_one p q table command e r m h aims judges some is =
     let x : LoggedEvent = made_by p q e r m in
     let a = makes_one p q e r m in record {
       made = x ∷ [];
       adds = a;
-      whole = refl;
-      few = omega arith;
-      record_is = λ rest. ap (one_piece (slots_of table)) (take_event-cons e x rest refl);
-      tickets = table_kept p q (x ∷ []) table a (λ i t g. none_more t [] x refl (ends_other t x refl)) h;
+      whole = aims;
+      few = some;
+      record_is = λ rest. is (x ∷ rest) ∙ ap (one_piece (slots_of table)) (take_event-cons e x rest refl);
+      tickets = table_kept p q (x ∷ []) table a (λ i t g. none_more t [] x refl (ends_other t x (judges t))) h;
     }
+
+pub plays_write : (p q : PortView) (table : Table) (unit index value : ℕ) (r : Reply) → MakesEvent p (events.RegWrite unit p.number index value) r q → IsTicketTable p table → PlaysCommand p table (commands.Write unit index value) q table false
+plays_write p q table unit index value r m h =
+    plays_one p q table (commands.Write unit index value) (events.RegWrite unit p.number index value) r m h refl (λ t. refl) (omega arith) (λ xs. refl)
 
 pub plays_read : (p q : PortView) (table : Table) (unit index : ℕ) (r : Reply) → MakesEvent p (events.RegRead unit p.number index) r q → IsTicketTable p table → PlaysCommand p table (commands.Read unit index) q table false
 plays_read p q table unit index r m h =
-    let e : Event = events.RegRead unit p.number index in
-    let x : LoggedEvent = made_by p q e r m in
-    let a = makes_one p q e r m in record {
-      made = x ∷ [];
-      adds = a;
-      whole = refl;
-      few = omega arith;
-      record_is = λ rest. ap (one_piece (slots_of table)) (take_event-cons e x rest refl);
-      tickets = table_kept p q (x ∷ []) table a (λ i t g. none_more t [] x refl (ends_other t x refl)) h;
-    }
+    plays_one p q table (commands.Read unit index) (events.RegRead unit p.number index) r m h refl (λ t. refl) (omega arith) (λ xs. refl)
 
 -- ---- submissions
 

@@ -34,7 +34,7 @@ use Rattle.history_laws.proofs.QueueLaw.{written-shape}
 use Rattle.history_laws.proofs.VerdictLaw.{law_verdicts}
 use Rattle.history_laws.proofs.WordHistories.{events_at_words, event_at_words, reply_at_words, word_at_place}
 use Rattle.history_laws.proofs.TicketReplies.{get_last}
-use Rattle.unit_core.proofs.HeldBack.{by_cond}
+use Rattle.std.proofs.lemmas.Bool.{cond_both}
 use Rattle.unit_core.proofs.Sims.{recorded_shape}
 use Rattle.checker_workers.specs.Ports.{PortView, IsAtReset, MakesEvent, state_after}
 use Rattle.checker_workers.proofs.Making.{reply_of_event, submit_on}
@@ -57,7 +57,7 @@ verdict_shape u a (decisions.Denied kind entry mute_irq mute_err) = recorded_sha
 judge_shape : (u : UnitState) (place caller : ℕ) (o : Option Submission) → HasShape u.registers.shape (judge_item u place caller o)
 judge_shape u place caller None = refl
 judge_shape u place caller (Some item) =
-    by_cond (HasShape u.registers.shape) item.queued (u, replies.Held) (verdict_step (closed place caller u) item.access (decision u.registers item.access))
+    cond_both item.queued (u, replies.Held) (verdict_step (closed place caller u) item.access (decision u.registers item.access)) (HasShape u.registers.shape)
     (λ q. refl)
     (λ q. verdict_shape (closed place caller u) item.access (decision u.registers item.access))
 

@@ -1,9 +1,8 @@
 -- How tickets stay open as events come.
 use Rattle.std.proofs.Common.{◌≡◌, ℕ, suc, ◌+◌, ◌-◌, ◌≤◌, Bool, true, false, List, [], ◌∷◌, ◌++◌, length, Option, Some, None, eqb, refl, sym, ap, ◌∙◌, subst, arith, length-append, eq-eqb}
-use Rattle.std.specs.Prelude.{◌&&◌, ◌||◌, nat_lt}
+use Rattle.std.specs.Prelude.{◌&&◌, ◌||◌}
 use Rattle.std.specs.List.{list_any}
-use Rattle.std.proofs.lemmas.Bool.Decides.{nat_tests}
-use Rattle.std.proofs.lemmas.Bool.{and_from, or_from, cond_both}
+use Rattle.std.proofs.lemmas.Bool.{and_from, or_from, cond_both, le-ltb}
 use Rattle.std.proofs.lemmas.List.Folds.{list_any-append}
 use Rattle.event_words.specs.declared.access.Access.{Access}
 use Rattle.event_words.specs.declared.event.Event.{Event}
@@ -25,11 +24,8 @@ use Rattle.checker_workers.specs.Tickets.{IsOpenTicket, BearsTicket, HandsOut, M
 
 -- ---- no event stands past the end of the log
 
-lt-false : (a b : ℕ) → b ≤ a → nat_lt a b ≡ false
-lt-false a b h = search (nat_tests, arith)
-
 ends_none : (t : TicketView) (x : LoggedEvent) → x.place ≤ t.place → is_end t x ≡ false
-ends_none t x h = ap (λ (b : Bool). b && (same_event (events.Judge t.unit t.caller t.place) x.event && is_verdict x.reply)) (lt-false t.place x.place h)
+ends_none t x h = ap (λ (b : Bool). b && (same_event (events.Judge t.unit t.caller t.place) x.event && is_verdict x.reply)) (le-ltb t.place x.place h)
 
 by-cons : (t : TicketView) (c : ℕ) (x : LoggedEvent) (xs : List LoggedEvent) → x.place ≤ t.place → list_any (is_end t) (events_by c xs) ≡ false → list_any (is_end t) (events_by c (x ∷ xs)) ≡ false
 by-cons t c x xs h rest =
@@ -46,9 +42,6 @@ none_ends t c k st [] h = refl
 none_ends t c k st (w ∷ ws) h = first-ends t c k (reply_to_word st k w) (event_of_word w) (logged_from state_after_word reply_to_word (suc k) (state_after_word st k w) ws) (omega arith) (none_ends t c (suc k) (state_after_word st k w) ws (omega arith))
 
 -- ---- one more event
-
-one : {X : Type 0} (f : X → Bool) (xs : List X) (x : X) → list_any f (xs ++ x ∷ []) ≡ (list_any f xs || (f x || false))
-one f xs x = list_any-append f xs (x ∷ [])
 
 pub on_unit : (u c : ℕ) → (eqb u u && eqb c c) ≡ true
 on_unit u c = and_from (eqb u u) (eqb c c) (eq-eqb u u refl) (eq-eqb c c refl)
@@ -67,8 +60,8 @@ new_ticket p q unit e r m submits taken =
     let before : list_any (is_end t) (port_events p) ≡ false = none_ends t p.number 0 p.first p.log (omega (arith, length-append p.log m.between)) in
     subst (λ (v : TicketView). IsOpenTicket q v) (sym is) (record {
       caller = sym number;
-      taken = ap (list_any (is_ticket_submission t)) m.own ∙ one (is_ticket_submission t) (port_events p) x ∙ any_last (list_any (is_ticket_submission t) (port_events p)) (is_ticket_submission t x) submitted;
-      open_still = ap (list_any (is_end t)) m.own ∙ one (is_end t) (port_events p) x ∙ or_from _ _ before (or_from _ _ (ends_none t x (omega arith)) refl);
+      taken = ap (list_any (is_ticket_submission t)) m.own ∙ list_any-append (is_ticket_submission t) (port_events p) (x ∷ []) ∙ any_last (list_any (is_ticket_submission t) (port_events p)) (is_ticket_submission t x) submitted;
+      open_still = ap (list_any (is_end t)) m.own ∙ list_any-append (is_end t) (port_events p) (x ∷ []) ∙ or_from _ _ before (or_from _ _ (ends_none t x (omega arith)) refl);
     })
   where
     any_last : (b c : Bool) → c ≡ true → (b || (c || false)) ≡ true

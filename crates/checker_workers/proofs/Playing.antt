@@ -1,7 +1,6 @@
 -- The record of a section as its commands are played.
-use Rattle.std.proofs.Common.{◌≡◌, ℕ, ◌+◌, ◌<◌, ◌≤◌, Bool, true, false, not, List, [], ◌∷◌, ◌++◌, length, get_or, drop, sum_by, count_by, Option, Some, if◌then◌else◌, refl, sym, ap, ◌∙◌, subst, arith, append_assoc, append-nil, add-one}
+use Rattle.std.proofs.Common.{◌≡◌, ℕ, ◌+◌, ◌<◌, ◌≤◌, Bool, true, false, not, List, [], ◌∷◌, ◌++◌, length, drop, sum_by, count_by, Option, Some, if◌then◌else◌, refl, sym, ap, ◌∙◌, subst, arith, append_assoc, append-nil}
 use Rattle.std.specs.List.{AllByRecursion}
-use Rattle.std.proofs.Math.Seq.{drop-cons}
 use Rattle.std.proofs.lemmas.List.{drop_all}
 use Rattle.std.proofs.lemmas.List.Sums.{sum_by-cons}
 use Rattle.unit_core.proofs.Lists.{count_cons}
@@ -50,9 +49,6 @@ playing_none p all table count capacity empty zeroth valid units enough room = r
 }
 
 -- ---- the next command
-
-pub next_command : (all : List Command) (i : ℕ) (d : Command) → i < length all → drop i all ≡ get_or all i d ∷ drop (i + 1) all
-next_command all i d h = drop-cons all i d h ∙ ap (λ (n : ℕ). get_or all i d ∷ drop n all) (sym (add-one i))
 
 -- what holds of the next command
 pub record MayBeNext (q : PortView) (command : Command) (count capacity : ℕ) : Type 0 where

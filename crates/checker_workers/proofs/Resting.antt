@@ -1,18 +1,14 @@
 -- Between its commands a lane has no Aim without its Wide.
-use Rattle.std.proofs.Common.{◌≡◌, ℕ, ◌≤◌, false, List, [], ◌∷◌, ◌++◌, Option, Some, None, refl, sym, ap, ◌∙◌, subst, arith, append-nil}
+use Rattle.std.proofs.Common.{◌≡◌, ℕ, ◌≤◌, false, List, [], ◌∷◌, ◌++◌, None, sym, ap, ◌∙◌, subst, arith, append-nil}
 use Rattle.std.specs.List.{last_or}
 use Rattle.event_words.specs.declared.record.LoggedEvent.{LoggedEvent}
-use Rattle.cascade_path.proofs.Causes.{last-append}
 use Rattle.checker_workers.specs.Ports.{PortView, EndWhole, RestsSince, is_aim, is_aim_logged, port_events}
 use Rattle.checker_workers.specs.Pieces.{MakesEvents}
-
-last_behind : (o : Option LoggedEvent) (xs : List LoggedEvent) (y : LoggedEvent) (ys : List LoggedEvent) → last_or o (xs ++ y ∷ ys) ≡ last_or (Some y) ys
-last_behind o [] y ys = refl
-last_behind o (x ∷ xs) y ys = last_behind (Some x) xs y ys
+use Rattle.cascade_path.proofs.Causes.{last_behind}
 
 -- one event more, which is no Aim
 pub ends_one : (made : List LoggedEvent) (x : LoggedEvent) → is_aim x.event ≡ false → EndWhole (made ++ x ∷ [])
-ends_one made x h = ap is_aim_logged (last-append None made x) ∙ h
+ends_one made x h = ap is_aim_logged (last_behind None made x []) ∙ h
 
 pub ends_both : (xs ys : List LoggedEvent) → EndWhole xs → EndWhole ys → EndWhole (xs ++ ys)
 ends_both xs [] h k = ap (λ (l : List LoggedEvent). is_aim_logged (last_or None l)) (append-nil xs) ∙ h

@@ -20,16 +20,17 @@ use Rattle.event_words.specs.Records.{is_by, events_by, is_taken, is_verdict}
 use Rattle.event_words.specs.Runs.{IsEventWord, run, logged}
 use Rattle.event_words.proofs.Runs.{events-of-beginning, word_of-is_word, event_of_word-word_of}
 use Rattle.event_words.proofs.SameEvents.{same_event_self}
+use Rattle.event_words.proofs.ListItems.{all_push}
 use Rattle.unit_core.specs.Units.{FabricState, fabric_at_reset}
 use Rattle.unit_core.specs.Fabrics.{state_after_word, reply_to_word}
 use Rattle.unit_core.specs.Histories.{History, event_at, reply_at, history_of, events_of_words, logged_in}
-use Rattle.unit_core.proofs.HeldBack.{all_append}
 use Rattle.shared_log.specs.Words.{AllEventWords}
+use Rattle.shared_log.proofs.WordLists.{AllEventWords-left}
 use Rattle.history_laws.specs.Tickets.{IsTaken, IsOwnJudgement}
 use Rattle.history_laws.proofs.Accepted.{Submits, taken_submission}
 use Rattle.history_laws.proofs.WordHistories.{event_at_words, reply_at_words, is_entry, has_entry, length_events}
 use Rattle.history_laws.proofs.LoggedTests.{found_kept, none_kept}
-use Rattle.history_laws.proofs.TicketReplies.{IsJudged, judged_open, same_event_before, same_reply_before, get_last}
+use Rattle.history_laws.proofs.TicketReplies.{IsJudged, judged_open, same_event_before, same_reply_before, get_last, IsSubmissionEntry}
 use Rattle.checker_workers.specs.Ports.{PortView, IsAtReset, MakesEvent, port_events, state_after}
 use Rattle.checker_workers.specs.TicketViews.{TicketView}
 use Rattle.checker_workers.specs.Tickets.{IsOpenTicket, is_ticket_submission, is_end, submits_on}
@@ -45,27 +46,21 @@ taken_reply replies.Passed e = inl refl
 taken_reply replies.Queued e = inr refl
 taken_reply _ e = absurd (let n : false ≡ true = e in cc)
 
--- A submission that was taken, whose access may be told by its history alone.
-record IsFound (t : TicketView) (x : LoggedEvent) : Type 0 where
-  place : x.place ≡ t.place
-  submits : submits_on t.unit t.caller x.event ≡ true
-  reply : (x.reply ≡ replies.Passed) ⊎ (x.reply ≡ replies.Queued)
-
-finds : (t : TicketView) (x : LoggedEvent) → is_ticket_submission t x ≡ true → IsFound t x
-finds t x e =
-    let a = and_parts (eqb x.place t.place) (submits_on t.unit t.caller x.event && is_taken x.reply) e in
-    let b = and_parts (submits_on t.unit t.caller x.event) (is_taken x.reply) a.1 in
-    record { place = eqb-true x.place t.place a.0; submits = b.0; reply = taken_reply x.reply b.1 }
-
 submits_so : (u c : ℕ) (e : Event) → submits_on u c e ≡ true → Submits u c e
 submits_so u c (events.Submit x y a) s = let b = and_parts (eqb x u) (eqb y c) s in (eqb-true x u b.0, eqb-true y c b.1)
 submits_so u c (events.Wide x y r k n) s = let b = and_parts (eqb x u) (eqb y c) s in (eqb-true x u b.0, eqb-true y c b.1)
 submits_so u c _ s = absurd (let n : false ≡ true = s in cc)
 
+finds : (t : TicketView) (x : LoggedEvent) → is_ticket_submission t x ≡ true → IsSubmissionEntry t.unit t.caller t.place x
+finds t x e =
+    let a = and_parts (eqb x.place t.place) (submits_on t.unit t.caller x.event && is_taken x.reply) e in
+    let b = and_parts (submits_on t.unit t.caller x.event) (is_taken x.reply) a.1 in
+    record { place = eqb-true x.place t.place a.0; event = submits_so t.unit t.caller x.event b.0; reply = taken_reply x.reply b.1 }
+
 -- An event that submits, and that was taken, is a submission of some access.
-taken_there : (h : History) (k p u c : ℕ) (e : Event) (r : Reply) → event_at h k ≡ Some e → reply_at h k ≡ Some r → (r ≡ replies.Passed) ⊎ (r ≡ replies.Queued) → submits_on u c e ≡ true → k ≡ p → (a : Access) × IsTaken h u c p a
+taken_there : (h : History) (k p u c : ℕ) (e : Event) (r : Reply) → event_at h k ≡ Some e → reply_at h k ≡ Some r → (r ≡ replies.Passed) ⊎ (r ≡ replies.Queued) → Submits u c e → k ≡ p → (a : Access) × IsTaken h u c p a
 taken_there h k p u c e r event reply taken submits place =
-    let what = taken_submission h u c k e event (submits_so u c e submits)
+    let what = taken_submission h u c k e event submits
     (⊎_elim (λ (is : r ≡ replies.Passed). inl (reply ∙ ap (λ (v : Reply). Some v) is)) (λ (is : r ≡ replies.Queued). inr (reply ∙ ap (λ (v : Reply). Some v) is)) taken) in
     (what.0, subst (λ (n : ℕ). IsTaken h u c n what.0) place what.1)
 
@@ -75,10 +70,6 @@ ends t x v later e r =
     (and_from (same_event (judgement t) x.event) (is_verdict x.reply) (ap (same_event (judgement t)) e ∙ same_event_self (judgement t)) (ap is_verdict r))
 
 -- ---- over words
-
-prefix : (words : List ℕ) (w : ℕ) → AllByRecursion IsEventWord (words ++ w ∷ []) → AllByRecursion IsEventWord words
-prefix [] w h = tt
-prefix (v ∷ ws) w h = (h.0, prefix ws w h.1)
 
 within_words : (shapes : List Shape) (words : List ℕ) → AllByRecursion IsEventWord words → (k : ℕ) (e : Event) → event_at (history_of shapes words) k ≡ Some e → k < length words
 within_words shapes words all k e q = subst (λ (n : ℕ). k < n) (length_events words all) (slice_get_within (events_of_words words) k e q)
@@ -93,14 +84,14 @@ judged_words shapes words all t valid some none =
     let found = found_kept (is_ticket_submission t) (is_by t.caller) (logged_in shapes words) some in
     let k = found.index in
     let is = finds t found.item found.passes in
-    let longer = all_append IsEventWord words w all (word_of-is_word (judgement t) valid) in
+    let longer = all_push IsEventWord words w all (word_of-is_word (judgement t) valid) in
     let h = history_of shapes (words ++ w ∷ []) in
     let here = is_entry shapes words all k found.item found.there in
     let place : k ≡ t.place = sym here.place ∙ is.place in
     let before : k < length words = within_words shapes words all k found.item.event here.event in
     let event = same_event_before shapes words (w ∷ []) all longer k before ∙ here.event in
     let reply = same_reply_before shapes words (w ∷ []) all longer k before ∙ here.reply in
-    let what = taken_there h k t.place t.unit t.caller found.item.event found.item.reply event reply is.reply is.submits place in
+    let what = taken_there h k t.place t.unit t.caller found.item.event found.item.reply event reply is.reply is.event place in
     let own : IsOwnJudgement h t.unit t.caller t.place (length words) = record {
       event = event_at_words shapes (words ++ w ∷ []) longer (length words) w (judgement t) (get_last words w) (event_of_word-word_of (judgement t) valid);
       later = subst (λ n. n < length words) place before;
@@ -122,7 +113,7 @@ pub open_reply : (p q : PortView) (t : TicketView) (r : Reply) (m : MakesEvent p
 open_reply p q t r m reset all valid h =
     let words : List ℕ = p.log ++ m.between in
     let w = word_of (judgement t) in
-    let before : AllByRecursion IsEventWord words = prefix words w (subst (AllByRecursion IsEventWord) m.log all) in
+    let before : AllByRecursion IsEventWord words = AllEventWords-left words (w ∷ []) (subst (AllByRecursion IsEventWord) m.log all) in
     let own : events_by t.caller (logged_in reset.shapes words) ≡ port_events p =
     ap (λ (n : ℕ). events_by n (logged_in reset.shapes words)) h.caller
     ∙ ap (λ (s : FabricState). events_by p.number (logged state_after_word reply_to_word s words)) (sym reset.is)

@@ -112,18 +112,46 @@ polled p q s event mask value max i r b h m rest =
     let x : LoggedEvent = made_by q s event r m in
     ap (polls_left max event mask value) (append_assoc b.made (x ∷ []) rest) ∙ b.so_far (x ∷ rest) ∙ ap (λ (n : ℕ). polls_left n event mask value (x ∷ rest)) (step_down max i h)
 
-pub polling_missed : (p q s : PortView) (unit index mask value max i : ℕ) (r : Reply) → Polling p (events.RegRead unit p.number index) mask value max i q → i < max → MakesEvent q (events.RegRead unit q.number index) r s → hits mask value r ≡ false
-    → Polling p (events.RegRead unit p.number index) mask value max (i + 1) s
-polling_missed p q s unit index mask value max i r b h read miss =
+-- the reads so far and one more, which may hit
+record OneRead (p : PortView) (event : Event) (mask value max i : ℕ) (r : Reply) (q : PortView) : Type 0 where
+  made : List LoggedEvent
+  last : LoggedEvent
+  is : last.event ≡ event
+  replied : last.reply ≡ r
+  adds : MakesEvents p made q
+  whole : EndWhole made
+  count : length made ≡ i + 1
+  so_far : (rest : List LoggedEvent) → polls_left max event mask value (made ++ rest) ≡ polls_left (suc (max - (i + 1))) event mask value (last ∷ rest)
+  others : (u : TicketView) → list_any (is_end u) made ≡ false
+
+one_read : (p q s : PortView) (unit index mask value max i : ℕ) (r : Reply) → Polling p (events.RegRead unit p.number index) mask value max i q → i < max → MakesEvent q (events.RegRead unit q.number index) r s
+    → OneRead p (events.RegRead unit p.number index) mask value max i r s
+one_read p q s unit index mask value max i r b h read =
     let event : Event = events.RegRead unit p.number index in
     let m : MakesEvent q event r s = own_read p q s b.made unit index r b.adds read in
     let x : LoggedEvent = made_by q s event r m in record {
       made = b.made ++ x ∷ [];
+      last = x;
+      is = refl;
+      replied = refl;
       adds = makes_more p q s b.made event r b.adds m;
       whole = ends_one b.made x refl;
       count = let c = b.count in omega (arith, length-append b.made (x ∷ []));
-      so_far = λ rest. polled p q s event mask value max i r b h m rest ∙ polls-missed (max - (i + 1)) event mask value x rest refl miss;
+      so_far = λ rest. polled p q s event mask value max i r b h m rest;
       others = λ u. none_more u b.made x (b.others u) (ends_other u x refl);
+    }
+
+pub polling_missed : (p q s : PortView) (unit index mask value max i : ℕ) (r : Reply) → Polling p (events.RegRead unit p.number index) mask value max i q → i < max → MakesEvent q (events.RegRead unit q.number index) r s → hits mask value r ≡ false
+    → Polling p (events.RegRead unit p.number index) mask value max (i + 1) s
+polling_missed p q s unit index mask value max i r b h read miss =
+    let event : Event = events.RegRead unit p.number index in
+    let o = one_read p q s unit index mask value max i r b h read in record {
+      made = o.made;
+      adds = o.adds;
+      whole = o.whole;
+      count = o.count;
+      so_far = λ rest. o.so_far rest ∙ polls-missed (max - (i + 1)) event mask value o.last rest o.is (ap (hits mask value) o.replied ∙ miss);
+      others = o.others;
     }
 
 some_polls : (max : ℕ) (event : Event) (mask value : ℕ) (xs : List LoggedEvent) → 1 ≤ max → polls max event mask value xs ≡ polls_left max event mask value xs
@@ -134,14 +162,13 @@ pub polling_hit : (p q s : PortView) (unit index mask value max i : ℕ) (r : Re
     → Polls p (events.RegRead unit p.number index) mask value max true s
 polling_hit p q s unit index mask value max i r b h read hit =
     let event : Event = events.RegRead unit p.number index in
-    let m : MakesEvent q event r s = own_read p q s b.made unit index r b.adds read in
-    let x : LoggedEvent = made_by q s event r m in record {
-      made = b.made ++ x ∷ [];
-      adds = makes_more p q s b.made event r b.adds m;
-      whole = ends_one b.made x refl;
-      few = let c = b.count in omega (arith, length-append b.made (x ∷ []));
-      record_is = λ rest. some_polls max event mask value ((b.made ++ x ∷ []) ++ rest) (omega arith) ∙ polled p q s event mask value max i r b h m rest ∙ polls-hit (max - (i + 1)) event mask value x rest refl hit;
-      others = λ u. none_more u b.made x (b.others u) (ends_other u x refl);
+    let o = one_read p q s unit index mask value max i r b h read in record {
+      made = o.made;
+      adds = o.adds;
+      whole = o.whole;
+      few = let c = o.count in omega (arith, c, h);
+      record_is = λ rest. some_polls max event mask value (o.made ++ rest) (omega (arith, h)) ∙ o.so_far rest ∙ polls-hit (max - (i + 1)) event mask value o.last rest o.is (ap (hits mask value) o.replied ∙ hit);
+      others = o.others;
     }
 
 pub polling_end : (p q : PortView) (event : Event) (mask value max i : ℕ) → Polling p event mask value max i q → max ≤ i → i ≤ max → 1 ≤ max → Polls p event mask value max false q

@@ -4,6 +4,7 @@ use Rattle.std.specs.String.{string_bytes}
 use Rattle.std.specs.List.{AllByRecursion}
 use Rattle.event_words.specs.declared.section.Command.{Command}
 use Rattle.event_words.specs.Sections.{SectionOf, NamesUnits}
+use Rattle.event_words.proofs.ListItems.{all_append}
 use Rattle.script_reader.specs.declared.script.ScriptError.{ScriptError}
 use Rattle.script_reader.specs.declared.script.ScriptError.TheVariants.{BadLine, TooManyEvents}
 use Rattle.script_reader.specs.declared.script.ScriptError.TheVariants as refusals
@@ -29,17 +30,13 @@ use Rattle.command_answers.specs.UpdateScripts.{IsLanesOr}
 
 -- ---- the script is well-formed
 
-appended : {A : Type 0} (P : A → Type 0) (xs ys : List A) → AllByRecursion P xs → AllByRecursion P ys → AllByRecursion P (xs ++ ys)
-appended P [] ys h k = k
-appended P (x ∷ xs) ys h k = (h.0, appended P xs ys h.1 k)
-
 rewrites_on_0 : (new : ImageOf) (indices : List ℕ) → AllByRecursion (NamesUnits 1) (map (rewrite new) indices)
 rewrites_on_0 new [] = tt
 rewrites_on_0 new (i ∷ is) = (omega arith, rewrites_on_0 new is)
 
 plan_on_0 : (old new : ImageOf) (polls : ℕ) → AllByRecursion (NamesUnits 1) (plan_commands old new polls)
 unfolding plan_commands rewrites
-plan_on_0 old new polls = (omega arith, (omega arith, appended (NamesUnits 1) (rewrites old new) _ (rewrites_on_0 new _) (omega arith, tt)))
+plan_on_0 old new polls = (omega arith, (omega arith, all_append (NamesUnits 1) (rewrites old new) _ (rewrites_on_0 new _) (omega arith, tt)))
 
 stalls_on_0 : (ss : List ℕ) (rest : List Command) → AllByRecursion (NamesUnits 1) rest → AllByRecursion (NamesUnits 1) (map stall_command ss ++ rest)
 stalls_on_0 [] rest h = h
@@ -47,7 +44,7 @@ stalls_on_0 (s ∷ ss) rest h = (omega arith, stalls_on_0 ss rest h)
 
 narrow_on_0 : (old new : ImageOf) (polls : ℕ) → AllByRecursion (NamesUnits 1) (narrow_commands old new polls)
 unfolding narrow_commands rewrites
-narrow_on_0 old new polls = stalls_on_0 (affected old new) _ (omega arith, appended (NamesUnits 1) (rewrites old new) _ (rewrites_on_0 new _) (omega arith, tt))
+narrow_on_0 old new polls = stalls_on_0 (affected old new) _ (omega arith, all_append (NamesUnits 1) (rewrites old new) _ (rewrites_on_0 new _) (omega arith, tt))
 
 wanted_on_0 : (which : WhichPlan) (u : UpdateOf) → AllByRecursion (NamesUnits 1) (wanted_section which u).commands
 wanted_on_0 Whole u = plan_on_0 (image_of u.old) (image_of u.new) u.polls

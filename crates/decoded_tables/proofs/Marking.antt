@@ -1,7 +1,6 @@
 -- Marks of entries in rows of addresses.
-use Rattle.std.proofs.Common.{◌≡◌, ◌≢◌, ℕ, suc, zero, pow-add, take, drop, ◌++◌, ◌+◌, ◌-◌, ◌*◌, ◌/◌, ◌%◌, ◌^◌, ◌<◌, ◌≤◌, Bool, true, false, List, Option, None, max, bit_or, bit_and, length, slice_index_or, slice_set, w64, arith, refl, sym, ap, ◌∙◌, ⊎_elim, subst}
+use Rattle.std.proofs.Common.{◌≡◌, ◌≢◌, ℕ, pow-add, take, drop, ◌++◌, ◌+◌, ◌-◌, ◌*◌, ◌/◌, ◌%◌, ◌^◌, ◌<◌, ◌≤◌, true, false, List, Option, None, max, bit_or, bit_and, length, slice_index_or, slice_set, w64, arith, sym, ap, ◌∙◌, ⊎_elim, subst}
 use Rattle.std.specs.Int.{bit_at, trailing_zeros}
-use Rattle.std.specs.List.{range_with_len, list_any}
 use Rattle.std.proofs.Math.Seq.{take-append_seam}
 use Rattle.std.proofs.Math.Nat.{div-div-eq-div-mul, div-le_self}
 use Rattle.std.proofs.lemmas.Bool.{cases_eq, cases_lt}
@@ -10,6 +9,7 @@ use Rattle.std.proofs.lemmas.Nat.Bits.{bit_at_or, bit_at-lt, bit_at_set_same, bi
 use Rattle.event_words.specs.declared.access.Access.{Access}
 use Rattle.entry_ranges.specs.declared.ByteRange.{ByteRange}
 use Rattle.event_words.proofs.Cases.{by_test}
+use Rattle.event_words.proofs.Ranges.{none_any}
 use Rattle.decoded_tables.specs.Standing.{range_at, is_in, is_touched}
 use Rattle.decoded_tables.specs.Marks.{row_of, IsMarked, MarksFor}
 
@@ -123,11 +123,6 @@ unset_all word from group start j e low h g l none =
     )
 
 -- ---- what an entry without a mark in the rows of a transaction is
-
-none_any : (p : ℕ → Bool) (a n : ℕ) → ((x : ℕ) → a ≤ x → x < a + n → p x ≡ false) → list_any p (range_with_len a n) ≡ false
-none_any p a zero h = refl
-none_any p a (suc n) h =
-    rw (h a (omega arith) (omega arith)) (none_any p (a + 1) n (λ x y z. h x (omega arith) (omega arith)))
 
 pub untouched : (marks : List ℕ) (ranges : List (Option ByteRange)) (a : Access) (j : ℕ) → MarksFor marks ranges → j < length ranges
     → ((x : ℕ) → a.addr ≤ x → x < a.addr + a.len → IsMarked marks j (row_of x) → ⊥) → is_touched ranges a j ≡ false

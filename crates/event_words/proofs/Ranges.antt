@@ -1,5 +1,5 @@
--- Runs of numbers, cut in two or one number longer, and what some of a run do.
-use Rattle.std.proofs.Common.{◌≡◌, ℕ, suc, zero, ◌+◌, ◌<◌, ◌≤◌, Bool, true, false, ◌&&◌, ◌||◌, cond, List, [], ◌∷◌, ◌++◌, filter, arith, refl, sym, ap, ◌∙◌, subst}
+-- Runs of numbers, cut in two or one number longer, what some of a run do, and a search along one.
+use Rattle.std.proofs.Common.{◌≡◌, ℕ, suc, zero, ◌+◌, ◌-◌, ◌<◌, ◌≤◌, Bool, true, false, ◌&&◌, ◌||◌, cond, List, [], ◌∷◌, ◌++◌, Some, None, find, filter, arith, refl, sym, ap, ◌∙◌, subst}
 use Rattle.std.specs.List.{range_with_len, list_any, list_all}
 use Rattle.std.proofs.Math.Bool.{and-true, or-false}
 use Rattle.std.proofs.lemmas.List.{append-nil, map-id}
@@ -46,3 +46,17 @@ pub none_any : (p : ℕ → Bool) (a n : ℕ) → ((x : ℕ) → a ≤ x → x <
 none_any p a zero h = refl
 none_any p a (suc n) h =
     rw (h a (omega arith) (omega arith)) (none_any p (a + 1) n (λ x y z. h x (omega arith) (omega arith)))
+
+-- ---- the turns of a loop that searches
+
+pub range_step : (i n : ℕ) → i < n → range_with_len i (n - i) ≡ i ∷ range_with_len (i + 1) (n - (i + 1))
+range_step i n h =
+    let e : n - i ≡ suc (n - (i + 1)) = omega arith in ap (range_with_len i) e
+
+pub find_step : (p : ℕ → Bool) (i n : ℕ) → i < n → find p (range_with_len i (n - i)) ≡ cond (p i) (Some i) (find p (range_with_len (i + 1) (n - (i + 1))))
+find_step p i n h = ap (find p) (range_step i n h)
+
+pub find_none : (p : ℕ → Bool) (a n : ℕ) → ((m : ℕ) → a ≤ m → m < a + n → p m ≡ false) → find p (range_with_len a n) ≡ None
+find_none p a zero h = refl
+find_none p a (suc n) h =
+    rw (h a (omega arith) (omega arith)) (find_none p (a + 1) n (λ m x y. h m (omega arith) (omega arith)))

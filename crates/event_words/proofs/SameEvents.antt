@@ -72,13 +72,10 @@ same_event_is _ _ h = absurd (let n : false ≡ true = h in cc)
 self : (n : ℕ) → eqb n n ≡ true
 self n = eq-eqb n n refl
 
-both : (a b : Bool) → a ≡ true → b ≡ true → (a && b) ≡ true
-both a b p q = and_from a b p q
-
 pub same_event_self : (e : Event) → same_event e e ≡ true
-same_event_self (events.RegWrite u c i v) = both _ _ (self u) (both _ _ (self c) (both _ _ (self i) (self v)))
-same_event_self (events.RegRead u c i) = both _ _ (self u) (both _ _ (self c) (self i))
-same_event_self (events.Submit u c a) = both _ _ (self u) (both _ _ (self c) (both _ _ (self a.rrid) (both _ _ (self (kind_code a.kind)) (both _ _ (self a.addr) (self a.len)))))
-same_event_self (events.Judge u c p) = both _ _ (self u) (both _ _ (self c) (self p))
-same_event_self (events.Aim c a) = both _ _ (self c) (self a)
-same_event_self (events.Wide u c s k n) = both _ _ (self u) (both _ _ (self c) (both _ _ (self s) (both _ _ (self (kind_code k)) (self n))))
+same_event_self (events.RegWrite u c i v) = and_from _ _ (self u) (and_from _ _ (self c) (and_from _ _ (self i) (self v)))
+same_event_self (events.RegRead u c i) = and_from _ _ (self u) (and_from _ _ (self c) (self i))
+same_event_self (events.Submit u c a) = and_from _ _ (self u) (and_from _ _ (self c) (and_from _ _ (self a.rrid) (and_from _ _ (self (kind_code a.kind)) (and_from _ _ (self a.addr) (self a.len)))))
+same_event_self (events.Judge u c p) = and_from _ _ (self u) (and_from _ _ (self c) (self p))
+same_event_self (events.Aim c a) = and_from _ _ (self c) (self a)
+same_event_self (events.Wide u c s k n) = and_from _ _ (self u) (and_from _ _ (self c) (and_from _ _ (self s) (and_from _ _ (self (kind_code k)) (self n))))

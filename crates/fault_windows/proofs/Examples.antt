@@ -10,14 +10,14 @@ use Rattle.unit_core.specs.Histories.{History}
 use Rattle.fault_windows.specs.LateViolations.{is_late}
 use Rattle.fault_windows.specs.Windows.{window_bits, pending_after, pending_at, turn_at, shown_at}
 
-abbrev small : Shape
+abbrev pub small : Shape
 small = record { rrids = 4; domains = 3; entries = 8; mdcfg = 0; k = 0; srcmd = 0; sps = false; queue = 1; transl = None }
 
-abbrev byte_at : ℕ → Kind → ℕ → Access
+abbrev pub byte_at : ℕ → Kind → ℕ → Access
 byte_at rrid kind addr = record { rrid = rrid; kind = kind; addr = addr; len = 1 }
 
 -- Domain 0 has all entries, requester 3 is in it, and checking is on.
-abbrev opening : List Event
+abbrev pub opening : List Event
 opening = RegWrite 0 0 0x200 8 ∷ RegWrite 0 0 0x418 2 ∷ RegWrite 0 0 2 1 ∷ []
 
 abbrev of_events : List Event → History

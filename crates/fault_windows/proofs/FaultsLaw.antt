@@ -15,21 +15,19 @@ use Rattle.unit_core.specs.Submissions.{SubmittedAccess, submitted}
 use Rattle.unit_core.specs.Units.{taken_as}
 use Rattle.unit_core.specs.Histories.{History, aims_at, event_at, reply_at}
 use Rattle.unit_core.specs.Submitted.{taken_at}
-use Rattle.unit_core.proofs.TakenEvents.{taken_valid}
+use Rattle.unit_core.proofs.TakenEvents.{taken_valid, SubmitsValid}
 use Rattle.fault_windows.specs.LateViolations.{requester_in, requester_of, is_late_by, is_late}
 use Rattle.fault_windows.specs.Windows.{is_reading, window_of, is_in_window, window_bits, next_window, is_pending, pending_after, shown_before, pending_at, turn_at, window_at}
 use Rattle.fault_windows.specs.Laws.{HasBitOf, ShowsRequester, IsNextReading, IsUnshownBetween, HasLateViolation, LawFaults}
 use Rattle.fault_windows.proofs.Tests.{passes, passing}
 use Rattle.fault_windows.proofs.Bits.{window_has}
 use Rattle.fault_windows.proofs.Places.{some_same, pending_to, pending_from, after_shown, turn_next, turn_below}
+use Rattle.fault_windows.proofs.Idle.{window_none}
 
 -- ---- a requester of a late violation is one of 64
 
 valid_at : (h : History) (k : ℕ) (e : Event) → All IsValidEvent h.events → event_at h k ≡ Some e → IsValidEvent e
 valid_at h k e all q = subst IsValidEvent (get_or_from_slice_get h.events k e e q) (all k e (slice_get_within h.events k e q))
-
-abbrev SubmitsValid : Event → Type 0
-SubmitsValid e = IfSome (submitted e) (λ s. IsValidAccess s.access)
 
 taken_valid_at : (h : History) (k : ℕ) (e : Event) → All IsValidEvent h.events → taken_at h k ≡ Some e → SubmitsValid e
 taken_valid_at h k e all = by_event (event_at h k) refl
@@ -175,14 +173,11 @@ read_once h u s k n l reading v near =
     ))
     (cases_eq r.0 (window_of s))
 
-no_window : (h : History) (u k : ℕ) → is_reading h u k ≡ false → window_at h u k ≡ None
-no_window h u k f = cond-false (is_reading h u k) (next_window (turn_at h u k) (pending_at h u k)) None f
-
 turn_idle : (h : History) (u k m : ℕ) → ((i : ℕ) → k ≤ i → i < k + m → is_reading h u i ≡ false) → turn_at h u (k + m) ≡ turn_at h u k
 turn_idle h u k zero idle = let e : k + 0 ≡ k = omega arith in ap (turn_at h u) e
 turn_idle h u k (suc m) idle =
     let e : k + suc m ≡ suc (k + m) = omega arith in
-    ap (turn_at h u) e ∙ (turn_next h u (k + m) ∙ (ap (after_shown (turn_at h u (k + m))) (no_window h u (k + m) (idle (k + m) (omega arith) (omega arith)))
+    ap (turn_at h u) e ∙ (turn_next h u (k + m) ∙ (ap (after_shown (turn_at h u (k + m))) (window_none h u (k + m) (idle (k + m) (omega arith) (omega arith)))
     ∙ turn_idle h u k m (λ i a b. idle i a (omega arith))))
 
 next_read : (h : History) (u s k r n : ℕ) → s < 64 → IsNextReading h u k r → IsLeft h u s k (suc n) → ShowsRequester h u s r ⊎ IsLeft h u s r n
@@ -199,7 +194,7 @@ next_read h u s k r n l next left =
       before = omega arith;
       unshown = λ i after m at. ⊎_elim
           (λ (c : i < suc k). v.unshown i after c at)
-          (λ (c : suc k ≤ i). none-some (window_of s) (sym (no_window h u i (next.none_between i (omega arith) m)) ∙ at))
+          (λ (c : suc k ≤ i). none-some (window_of s) (sym (window_none h u i (next.none_between i (omega arith) m)) ∙ at))
           (cases_lt i (suc k));
     })
     (subst (λ x. ahead x (window_of s) < suc n) (sym t) left.1)

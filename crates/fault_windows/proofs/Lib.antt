@@ -1,4 +1,4 @@
-mod Examples
+pub mod Examples
 pub mod Tests
 pub mod Bits
 pub mod Places

@@ -27,7 +27,7 @@ use Rattle.unit_core.specs.Units.{UnitState, unit_step, submit_step, judge_item,
 use Rattle.unit_core.specs.Histories.{History, state_at, reply_at}
 use Rattle.unit_core.proofs.KeptBits.{other_stays}
 use Rattle.unit_core.specs.Submitted.{taken_at}
-use Rattle.unit_core.proofs.Runs.{speaks_of, own_step, own_state, own_induction, own, own_at, reply_is, reply_none}
+use Rattle.unit_core.proofs.Runs.{speaks_of, own_step, own_state, own_induction, own, own_at, reply_is, reply_none, some_same, else-silent}
 use Rattle.fault_windows.specs.LateViolations.{is_kept_violation, is_recorded}
 use Rattle.std.proofs.Common.{find}
 
@@ -160,24 +160,17 @@ none_after (Judge unit caller place) = refl
 none_after (Aim caller addr) = refl
 none_after (Wide unit caller rrid kind len) = refl
 
-pub some_reply : (a b : Reply) → Some a ≡ Some b → a ≡ b
-some_reply a b e = cc
-
 step_to : (h : History) (k u : ℕ) (shape : Shape) (o : Option Event) → slice_get h.shapes u ≡ Some shape → taken_at h k ≡ o → state_at h (suc k) u ≡ Some (own_step k u (own_state h u shape k) o)
 step_to h k u shape o s p = own_at h u (suc k) shape s ∙ ap (λ o. Some (own_step k u (own_state h u shape k) o)) p
 
 same_unit : (u : ℕ) → speaks_of u (Some u) ≡ true
 same_unit u = eq-eqb u u refl
 
-silent : (u : ℕ) (o : Option ℕ) → (o ≡ Some u → ⊥) → speaks_of u o ≡ false
-silent u None ne = refl
-silent u (Some v) ne = ne_eqb v u (λ q. ne (ap (λ n. Some n) q))
-
 own_done : (k u : ℕ) (x : UnitState) (e : Event) → unit_of e ≡ Some u → own_step k u x (Some e) ≡ (unit_step k x e).0
 own_done k u x e t = cond-true (speaks_of u (unit_of e)) (unit_step k x e).0 x (ap (speaks_of u) t ∙ same_unit u)
 
 own_idle : (k u : ℕ) (x : UnitState) (e : Event) → (unit_of e ≡ Some u → ⊥) → own_step k u x (Some e) ≡ x
-own_idle k u x e ne = cond-false (speaks_of u (unit_of e)) (unit_step k x e).0 x (silent u (unit_of e) ne)
+own_idle k u x e ne = cond-false (speaks_of u (unit_of e)) (unit_step k x e).0 x (else-silent u (unit_of e) ne)
 
 -- The unit of the event.
 pub recorded_next : (h : History) (k u : ℕ) (e : Event) (r : Reply) → taken_at h k ≡ Some e → reply_at h k ≡ Some r → unit_of e ≡ Some u
@@ -187,7 +180,7 @@ recorded_next h k u e r p q t = by_shape (slice_get h.shapes u) refl
     by_shape : (o : Option Shape) → slice_get h.shapes u ≡ o → is_recorded (state_at h (suc k) u) ≡ bit_after (is_recorded (state_at h k u)) e r
     by_shape None s =
         let none : (k : ℕ) → state_at h k u ≡ None = λ k. own h u k ∙ ap (option_map (λ shape. own_state h u shape k)) s in
-        let n : r ≡ replies.NoSuch = some_reply r replies.NoSuch (sym q ∙ reply_none h k e u t p (none k)) in
+        let n : r ≡ replies.NoSuch = some_same r replies.NoSuch (sym q ∙ reply_none h k e u t p (none k)) in
         ap is_recorded (none (suc k))
         ∙ (sym (none_after e) ∙ (ap (λ o. bit_after (is_recorded o) e replies.NoSuch) (sym (none k)) ∙ ap (bit_after (is_recorded (state_at h k u)) e) (sym n)))
     by_shape (Some shape) s =

@@ -19,6 +19,7 @@ use Rattle.unit_core.specs.Units.{taken_as, wide_access, taken_step, event_step}
 use Rattle.unit_core.specs.Histories.{History, units_at, aims_at, state_at, event_at, reply_at}
 use Rattle.unit_core.specs.Submitted.{taken_at}
 use Rattle.unit_core.proofs.Lists.{filter_both}
+use Rattle.unit_core.proofs.Runs.{some_same}
 use Rattle.fault_windows.specs.declared.Shown.{Shown}
 use Rattle.fault_windows.specs.declared.monitor.UnitFaults.{UnitFaults}
 use Rattle.fault_windows.specs.LateViolations.{requester_of, is_kept_violation, is_recorded, is_late}
@@ -28,7 +29,7 @@ use Rattle.fault_windows.specs.Kept.{requesters_in, HasSeenUnit, HasSeenOn, viol
 use Rattle.fault_windows.proofs.Tests.{same_passes, eqb_turned}
 use Rattle.fault_windows.proofs.Bits.{with_bit}
 use Rattle.fault_windows.proofs.Places.{turn_next, after_shown}
-use Rattle.fault_windows.proofs.Records.{or_false, bit_after, recorded_next, IsElsewhere, some_reply}
+use Rattle.fault_windows.proofs.Records.{or_false, bit_after, recorded_next, IsElsewhere}
 use Rattle.fault_windows.proofs.Idle.{late_nobody, late_muted, late_free, late_now, window_here, window_none, next_pending, idle_turn, quiet, elsewhere_seen, taken_is, by_end}
 
 -- ---- readings
@@ -172,7 +173,7 @@ wide_seen h k s unit caller rrid kind len r x at seen = by_taken (taken_as (aims
 
     none : taken_as (aims_at h k) wide ≡ None → HasSeenUnit h (suc k) unit (answered x s r)
     none p =
-        let n : replies.NoSuch ≡ r = some_reply replies.NoSuch r (ap (λ o. Some (taken_step k (units_at h k) o).1) (sym p) ∙ reply) in
+        let n : replies.NoSuch ≡ r = some_same replies.NoSuch r (ap (λ o. Some (taken_step k (units_at h k) o).1) (sym p) ∙ reply) in
         subst (λ r. HasSeenUnit h (suc k) unit (answered x s r)) n
         (elsewhere_seen h unit k r x unread at.reply_is (subst (IsElsewhere unit) (sym (taken_is h k wide at.event_is ∙ p)) tt) seen)
 

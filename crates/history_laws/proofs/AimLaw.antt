@@ -6,16 +6,10 @@ use Rattle.event_words.specs.declared.event.Event.{Event}
 use Rattle.event_words.specs.declared.event.Event.TheVariants.{Aim}
 use Rattle.unit_core.specs.Units.{aim_of, aims_after}
 use Rattle.unit_core.specs.Histories.{History, aims_after_event, aims_at, aim_at, event_at}
+use Rattle.unit_core.proofs.Openings.{get_zero}
 use Rattle.history_laws.specs.Aims.{IsAim, KeepsAim, LawAims}
 
--- ---- 32 aims, at first 0
-
-at_first : (n i : ℕ) → get_or {A = ℕ} (replicate n 0) i 0 ≡ 0
-at_first zero i = refl
-at_first (suc n) zero = refl
-at_first (suc n) (suc i) = at_first n i
-
-after_len : (aims : List ℕ) (e : Event) → length (aims_after aims e) ≡ length aims
+pub after_len : (aims : List ℕ) (e : Event) → length (aims_after aims e) ≡ length aims
 after_len aims (Aim caller addr) = length-set aims caller addr
 after_len aims _ = refl
 
@@ -82,5 +76,5 @@ next h caller k small before (Some e) q =
     stays h caller k (λ addr p. let n : Some e ≡ Some (Aim caller addr) = sym q ∙ p in cc) (aim_then h caller k (Some e) q) before
 
 pub law_aims : LawAims
-law_aims h caller zero small = record { aimed = λ j addr last. absurd (omega (arith, last.aim.before)); none = λ none. at_first 32 caller }
+law_aims h caller zero small = record { aimed = λ j addr last. absurd (omega (arith, last.aim.before)); none = λ none. get_zero 32 caller }
 law_aims h caller (suc k) small = next h caller k small (law_aims h caller k small) (event_at h k) refl

@@ -24,7 +24,7 @@ use Rattle.unit_core.specs.Fabrics.{state_after_word}
 use Rattle.unit_core.specs.Histories.{IsLegalHistory, with_event, events_of_words, logged_in}
 use Rattle.history_laws.specs.Unwritten.{is_boot, units_after_boot}
 use Rattle.event_words.proofs.EventWords.{word_event}
-use Rattle.history_laws.proofs.Writes.{all_filter}
+use Rattle.history_laws.proofs.Writes.{all_filter, some_of}
 use Rattle.history_laws.proofs.WriteRecords.{event_of, write_by, writes_record}
 use Rattle.history_laws.proofs.LiveLists.{events_logged}
 
@@ -58,10 +58,6 @@ boot_filter (w ∷ ws) all =
         ≡ events_of_words (cond b (w ∷ filter is_boot ws) (filter is_boot ws))
     by e true back h = ap (λ es. e ∷ es) h ∙ ap (λ o. with_event o (events_of_words (filter is_boot ws))) (sym back)
     by e false back h = h
-
-pub some_of : (o : Option SectionEnd) → IsSome o → (end : SectionEnd) × (o ≡ Some end)
-some_of None h = absurd (let n : false ≡ true = h in cc)
-some_of (Some end) h = (end, refl)
 
 -- The entries of a boot section of writes are these writes.
 pub boot_entries : (shapes : List Shape) (boot : SectionOf) (lanes : List SectionOf) (words : List ℕ) (ps : List RegPair)

@@ -31,6 +31,7 @@ use Rattle.unit_core.proofs.Registers.{recorded_outside, AreWords, words_reset, 
 use Rattle.unit_core.proofs.Sims.{recorded_shape}
 use Rattle.history_laws.proofs.QueueLaw.{written-shape}
 use Rattle.history_laws.proofs.Guarding.{Follows, guarded_by, guarded_stays}
+use Rattle.policy_compiler.proofs.Unguarded.{nothing_kept}
 
 -- ---- an earlier and a later state
 
@@ -125,29 +126,15 @@ same_bits : (w a b : ℕ) → ((i : ℕ) → i < w → bit_at a (suc i) ≡ bit_
 same_bits w a b h = same_from_bits_below w (a / 2 ^ 1 % 2 ^ w) (b / 2 ^ 1 % 2 ^ w) (mod_below (a / 2 ^ 1) (2 ^ w) (pow_pos w)) (mod_below (b / 2 ^ 1) (2 ^ w) (pow_pos w))
     (λ i l. low_bits w (a / 2) i l ∙ sym (bit_at-suc a i) ∙ h i l ∙ bit_at-suc b i ∙ sym (low_bits w (b / 2) i l))
 
-none_numbers : (o n k m : ℕ) → k ≡ 0 → n < 2 → m ≡ 1 → max (min o k) (min n m) ≡ n
-none_numbers o n k m p q r = omega arith
-
-zero_numbers : (o n k m : ℕ) → k ≡ 0 → n ≡ 0 → max (min o k) (min n m) ≡ n
-zero_numbers o n k m p q = omega arith
-
-merged_none : (old new : ℕ) → new < 2 ^ 32 → merged 0 old new ≡ new
-merged_none old new small = same_from_bits (merged 0 old new) new (λ i.
-    rw (bit_at_or (bit_and old 0) (bit_and new (bit_not w32 0)) i, bit_at_and old 0 i, bit_at_and new (bit_not w32 0) i)
-    (⊎_elim
-    (λ (below : i < 32). none_numbers (bit_at old i) (bit_at new i) (bit_at 0 i) (bit_at (bit_not w32 0) i) (bit_at-zero i) (bit_at-lt new i) (bit_at_ones 32 i below))
-    (λ (above : 32 ≤ i). zero_numbers (bit_at old i) (bit_at new i) (bit_at 0 i) (bit_at (bit_not w32 0) i) (bit_at-zero i) (bit_at_above new 32 i small above))
-    (cases_lt i 32)))
-
 domains_grown : (old lock value : ℕ) → lock < 2
     → bits_of 1 7 old ≤ bits_of 1 7 (merged 0 old (0 + lock * 2 ^ 0 + max (bits_of 1 7 old) (bits_of 1 7 value) * 2 ^ 1))
 domains_grown old lock value l =
-    rw (merged_none old (0 + lock * 2 ^ 0 + max (bits_of 1 7 old) (bits_of 1 7 value) * 2 ^ 1) (omega arith)) (omega arith)
+    rw (nothing_kept old (0 + lock * 2 ^ 0 + max (bits_of 1 7 old) (bits_of 1 7 value) * 2 ^ 1) (omega arith)) (omega arith)
 
 entries_grown : (old lock value : ℕ) → lock < 2
     → bits_of 1 16 old ≤ bits_of 1 16 (merged 0 old (0 + lock * 2 ^ 0 + max (bits_of 1 16 old) (bits_of 1 16 value) * 2 ^ 1))
 entries_grown old lock value l =
-    rw (merged_none old (0 + lock * 2 ^ 0 + max (bits_of 1 16 old) (bits_of 1 16 value) * 2 ^ 1) (omega arith)) (omega arith)
+    rw (nothing_kept old (0 + lock * 2 ^ 0 + max (bits_of 1 16 old) (bits_of 1 16 value) * 2 ^ 1) (omega arith)) (omega arith)
 
 lock_small : (a b : ℕ) → bit_or (bits_of 0 1 a) (bits_of 0 1 b) < 2
 lock_small a b = or_lt 1 (bits_of 0 1 a) (bits_of 0 1 b) (omega arith) (omega arith)

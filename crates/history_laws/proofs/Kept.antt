@@ -1,3 +1,4 @@
+-- What a program may promise of each of its histories, and of each list of words.
 use Rattle.std.specs.List.{AllByRecursion}
 use Rattle.std.proofs.Common.{ℕ, List}
 use Rattle.std.proofs.lemmas.List.Elements.{All-from_recursion}

@@ -5,6 +5,7 @@ use Rattle.std.specs.Prelude.{IsSome, IfSome}
 use Rattle.std.specs.List.{AllByRecursion}
 use Rattle.std.proofs.lemmas.Bool.{cases_eq, cases_lt, eq-eqb, ne_eqb}
 use Rattle.std.proofs.lemmas.List.Elements.{filter-append}
+use Rattle.std.proofs.lemmas.List.{append-nil}
 use Rattle.event_words.specs.declared.shape.Shape.{Shape}
 use Rattle.event_words.specs.declared.event.Event.{Event}
 use Rattle.event_words.specs.declared.event.Event.TheVariants.{RegWrite}
@@ -22,8 +23,9 @@ use Rattle.unit_core.specs.Fabrics.{state_after_word, reply_to_word}
 use Rattle.unit_core.specs.Histories.{IsBoot, IsOfLane, BootComesFirst, HaveRecords, IsLegalHistory, with_event, events_of_words, logged_in}
 use Rattle.event_words.specs.Sections.{HasNoRegisterWrites as IsQuietSection}
 use Rattle.event_words.proofs.EventWords.{word_event}
+use Rattle.event_words.proofs.ListItems.{all_append, all_of}
 use Rattle.history_laws.proofs.QuietRecords.{IsNoWriteEvent, IsNoLoggedWrite, HaveNoWrites, quiet_record}
-use Rattle.history_laws.proofs.Writes.{append_nothing, all_parts, all_both, all_passing, all_each, some_of}
+use Rattle.history_laws.proofs.Writes.{all_parts, all_passing, all_each, some_of}
 use Rattle.history_laws.proofs.UnitStands.{IsOnZero}
 use Rattle.history_laws.proofs.WriteRecords.{write_by, event_of, IsDrainRead, IsPlanRecord, plan_of, plan_record, writes_record, release_write}
 
@@ -87,10 +89,6 @@ logged_halves lanes shapes words all b =
 
 -- ---- filters
 
-all_of : {X : Type 0} (P Q : X → Type 0) (xs : List X) → ((x : X) → P x → Q x) → AllByRecursion P xs → AllByRecursion Q xs
-all_of P Q [] each h = tt
-all_of P Q (x ∷ xs) each h = (each x h.0, all_of P Q xs each h.1)
-
 all_with : {X : Type 0} (P Q R : X → Type 0) (xs : List X) → ((x : X) → P x → Q x → R x) → AllByRecursion P xs → AllByRecursion Q xs
     → AllByRecursion R xs
 all_with P Q R [] each g h = tt
@@ -113,7 +111,7 @@ own_boot lanes xs h =
     ap (events_by 0) h.is
     ∙ (filter-append (is_by 0) h.boot h.others
     ∙ (ap (λ ys. filter (is_by 0) h.boot ++ ys) (keeps_none (is_by 0) h.others (all_of (IsByLane lanes) (λ x. is_by 0 x ≡ false) h.others (λ x l. ne_eqb (caller_of x.event) 0 (λ e. let n = l.0 in omega arith)) h.of_lanes))
-    ∙ (append_nothing (filter (is_by 0) h.boot) ∙ keeps_all (is_by 0) h.boot (all_of (IsBy 0) (λ x. is_by 0 x ≡ true) h.boot (λ x e. eq-eqb (caller_of x.event) 0 e) h.of_boot))))
+    ∙ (append-nil (filter (is_by 0) h.boot) ∙ keeps_all (is_by 0) h.boot (all_of (IsBy 0) (λ x. is_by 0 x ≡ true) h.boot (λ x e. eq-eqb (caller_of x.event) 0 e) h.of_boot))))
 
 own_others : (lanes : ℕ) (xs : List LoggedEvent) (h : Halves lanes xs) → events_by 1 xs ≡ events_by 1 h.others
 own_others lanes xs h =
@@ -169,8 +167,8 @@ writes_zero c (w ∷ ws) (x ∷ xs) h =
 plan_zero : (stalls tables : List RegPair) (xs : List LoggedEvent) → IsPlanRecord stalls tables xs → AllByRecursion IsLoggedOnZero xs
 plan_zero stalls tables xs r =
     subst (AllByRecursion IsLoggedOnZero) (sym r.is)
-    (all_both IsLoggedOnZero r.first (r.reads ++ r.rest) (writes_zero 1 stalls r.first r.stalling)
-    (all_both IsLoggedOnZero r.reads r.rest (all_of IsDrainRead IsLoggedOnZero r.reads (λ x e. subst IsOnZero (sym e) tt) r.events) (ending r.rest r.ends)))
+    (all_append IsLoggedOnZero r.first (r.reads ++ r.rest) (writes_zero 1 stalls r.first r.stalling)
+    (all_append IsLoggedOnZero r.reads r.rest (all_of IsDrainRead IsLoggedOnZero r.reads (λ x e. subst IsOnZero (sym e) tt) r.events) (ending r.rest r.ends)))
   where
     ending : {A B : Type 0} (rest : List LoggedEvent)
         → (A × (rest ≡ [])) ⊎ (B × (map event_of rest ≡ map (write_by 1) (tables ++ release_write ∷ [])))
@@ -219,5 +217,5 @@ live_list shapes old stalls tables polls boot plan lanes words b p q legal =
       boot_events = events;
       own = mine;
       quiet = silent;
-      on_zero = subst (AllByRecursion IsLoggedOnZero) (sym h.is) (all_both IsLoggedOnZero h.boot h.others (writes_zero 0 old h.boot events) (on_zero_by h.others silent (plan_zero stalls tables (events_by 1 h.others) mine)));
+      on_zero = subst (AllByRecursion IsLoggedOnZero) (sym h.is) (all_append IsLoggedOnZero h.boot h.others (writes_zero 0 old h.boot events) (on_zero_by h.others silent (plan_zero stalls tables (events_by 1 h.others) mine)));
     }

@@ -2,6 +2,7 @@
 use Rattle.std.proofs.Common.{◌≡◌, ℕ, suc, ◌++◌, List, [], ◌∷◌, map, filter, cond, refl, sym, ap, subst, ◌∙◌, arith}
 use Rattle.std.specs.List.{AllByRecursion}
 use Rattle.std.proofs.lemmas.Bool.{eq-eqb}
+use Rattle.std.proofs.lemmas.List.{append-nil}
 use Rattle.event_words.specs.declared.shape.Shape.{Shape}
 use Rattle.event_words.specs.declared.event.Event.{Event}
 use Rattle.event_words.specs.declared.record.LoggedEvent.{LoggedEvent}
@@ -44,13 +45,9 @@ no_lanes : (words : List ℕ) → AllByRecursion (IsOfLane 0) words → words �
 no_lanes [] h = refl
 no_lanes (w ∷ ws) h = let p = h.0.0 in let q = h.0.1 in absurd (omega arith)
 
-append_none : (xs : List ℕ) → xs ++ [] ≡ xs
-append_none [] = refl
-append_none (x ∷ xs) = ap (λ ys. x ∷ ys) (append_none xs)
-
 all_boot : (words : List ℕ) → BootComesFirst 0 words → AllByRecursion IsBoot words
 all_boot words h =
-    let e : words ≡ h.boot = h.is ∙ ap (λ ys. h.boot ++ ys) (no_lanes h.others h.of_lanes) ∙ append_none h.boot in
+    let e : words ≡ h.boot = h.is ∙ ap (λ ys. h.boot ++ ys) (no_lanes h.others h.of_lanes) ∙ append-nil h.boot in
     subst (AllByRecursion IsBoot) (sym e) h.of_boot
 
 -- ---- their record

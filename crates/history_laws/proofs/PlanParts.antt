@@ -3,7 +3,7 @@ use Rattle.std.proofs.Common.{◌≡◌, ℕ, zero, suc, ◌≤◌, ◌++◌, �
 use Rattle.std.specs.Prelude.{slice_get}
 use Rattle.std.specs.List.{AllByRecursion}
 use Rattle.std.proofs.lemmas.Bool.{ne_eqb, cond-false}
-use Rattle.std.proofs.lemmas.List.{take-append-drop}
+use Rattle.std.proofs.lemmas.List.{take-append-drop, append-nil}
 use Rattle.std.proofs.lemmas.List.Elements.{filter-append}
 use Rattle.event_words.specs.Registers.{index_of}
 use Rattle.event_words.specs.declared.register.Register.TheVariants.{Mdstall, Rridscp}
@@ -14,7 +14,7 @@ use Rattle.event_words.specs.Records.{hits, events_by, is_by}
 use Rattle.policy_compiler.specs.declared.image.RegPair.{RegPair}
 use Rattle.policy_compiler.proofs.Standing.{value_from}
 use Rattle.history_laws.proofs.QuietRecords.{IsNoWriteEvent, IsNoLoggedWrite}
-use Rattle.history_laws.proofs.Writes.{write_of, writes, writes_append, append_nothing, nothing_after, all_parts, CutInFirst, CutInSecond, two_cuts}
+use Rattle.history_laws.proofs.Writes.{write_of, writes, writes_append, nothing_after, all_parts, CutInFirst, CutInSecond, two_cuts}
 use Rattle.history_laws.proofs.WriteRecords.{write_by, event_of, IsDrainRead, Misses, HasHit, PlanEnds, IsPlanRecord, release_write}
 use Rattle.history_laws.proofs.UnitStands.{flag_from}
 
@@ -136,7 +136,7 @@ plan_writes stalls tables r p = ending p.rest p.ends (record_writes stalls table
     ending : {A B : Type 0} (rest : List LoggedEvent)
         → (A × (rest ≡ [])) ⊎ (B × (map event_of rest ≡ map (write_by 1) (tables ++ release_write ∷ [])))
         → writes_in r ≡ stalls ++ writes_in rest → IsUpdate stalls tables (writes_in r)
-    ending rest (inl e) w = inl (w ∙ (ap (λ ys. stalls ++ writes_in ys) e.1 ∙ append_nothing stalls))
+    ending rest (inl e) w = inl (w ∙ (ap (λ ys. stalls ++ writes_in ys) e.1 ∙ append-nil stalls))
     ending rest (inr e) w = inr (w ∙ ap (λ es. stalls ++ es) (ap writes e.1 ∙ writes_by 1 (tables ++ release_write ∷ [])))
 
 -- ---- before the drained reading
@@ -179,8 +179,8 @@ before_reading stalls tables r q z p e n = by (two_cuts q z p.first (p.reads ++ 
     by (inr c) =
         let parts = all_parts NotDrained p.first c.more (subst (AllByRecursion NotDrained) c.taken n) in
         let silent = only_reads p.reads p.rest c.more z c.rest p.events (ending p.ends) parts.1 in
-        let whole : writes_in q ≡ stalls = ap writes_in c.taken ∙ (writes_both p.first c.more ∙ (ap (λ ws. writes_in p.first ++ ws) silent ∙ (append_nothing (writes_in p.first) ∙ stalls_written stalls tables r p))) in
-        ([], sym (append_nothing (writes_in q) ∙ whole))
+        let whole : writes_in q ≡ stalls = ap writes_in c.taken ∙ (writes_both p.first c.more ∙ (ap (λ ws. writes_in p.first ++ ws) silent ∙ (append-nil (writes_in p.first) ∙ stalls_written stalls tables r p))) in
+        ([], sym (append-nil (writes_in q) ∙ whole))
 
 -- ---- at the drained reading
 
@@ -235,7 +235,7 @@ module _ (stalls tables : List RegPair) (r q z : List LoggedEvent) (x : LoggedEv
   among_reads = by (two_cuts q (x ∷ z) p.first (p.reads ++ p.rest) (e ∙ p.is))
     where
       first_of : (more : List LoggedEvent) → p.first ≡ q ++ more → x ∷ z ≡ more ++ (p.reads ++ p.rest) → AmongReads
-      first_of [] g h = in_reads [] (sym (append_nothing q) ∙ (sym g ∙ sym (append_nothing p.first))) h
+      first_of [] g h = in_reads [] (sym (append-nil q) ∙ (sym g ∙ sym (append-nil p.first))) h
       first_of (y ∷ more) g h = let same : y ≡ x = cc in absurd (no_stall q more (g ∙ ap (λ w. q ++ w ∷ more) same))
 
       by : CutInFirst q (x ∷ z) p.first (p.reads ++ p.rest) ⊎ CutInSecond q (x ∷ z) p.first (p.reads ++ p.rest) → AmongReads
@@ -248,7 +248,7 @@ module _ (stalls tables : List RegPair) (r q z : List LoggedEvent) (x : LoggedEv
       let silent = reads_nothing c.early (all_parts IsDrainRead c.early (x ∷ c.late) (subst (AllByRecursion IsDrainRead) c.reads p.events)).0 in
       record {
         whole = ending p.ends (record_writes stalls tables r p);
-        before = ap writes_in c.part ∙ (writes_both p.first c.early ∙ (ap (λ ws. writes_in p.first ++ ws) silent ∙ (append_nothing (writes_in p.first) ∙ stalls_written stalls tables r p)));
+        before = ap writes_in c.part ∙ (writes_both p.first c.early ∙ (ap (λ ws. writes_in p.first ++ ws) silent ∙ (append-nil (writes_in p.first) ∙ stalls_written stalls tables r p)));
       }
     where
       ending : PlanEnds tables p.reads p.rest → writes_in r ≡ stalls ++ writes_in p.rest
@@ -287,7 +287,7 @@ pub tables_part : (tables a b : List RegPair) → a ++ b ≡ tables ++ release_w
 tables_part tables a b e ne = by (two_cuts a b tables (release_write ∷ []) e)
   where
     last : (more : List RegPair) → more ++ b ≡ release_write ∷ [] → a ≡ tables ++ more → (c : List RegPair) × (tables ≡ a ++ c)
-    last [] f g = ([], sym (append_nothing a ∙ (g ∙ append_nothing tables)))
+    last [] f g = ([], sym (append-nil a ∙ (g ∙ append-nil tables)))
     last (y ∷ more) f g = let rest : more ++ b ≡ [] = cc in absurd (ne (nothing_after more b rest))
 
     by : CutInFirst a b tables (release_write ∷ []) ⊎ CutInSecond a b tables (release_write ∷ []) → (c : List RegPair) × (tables ≡ a ++ c)

@@ -1,3 +1,4 @@
+-- The law of queues, and what holds of a unit before each event of a history.
 use Rattle.std.proofs.Common.{◌≡◌, ℕ, ◌+◌, ◌<◌, ◌≤◌, Bool, true, false, cond, length, sym, ap, ◌∙◌, subst, arith}
 use Rattle.std.specs.List.{AllByRecursion}
 use Rattle.std.proofs.lemmas.Bool.{ltb-true, lt-ltb, false≢true}
@@ -13,12 +14,13 @@ use Rattle.event_words.specs.Denials.{recorded}
 use Rattle.event_words.specs.Stalls.{flags_after}
 use Rattle.unit_core.specs.declared.Submission.{Submission}
 use Rattle.unit_core.specs.Places.{IsHeldBack}
+use Rattle.event_words.proofs.ListItems.{all_push, all_of}
 use Rattle.unit_core.proofs.HeldBack.{all_released}
 use Rattle.unit_core.specs.Units.{UnitState, unit_step, after_write, closed, opened, is_stalled, queue_length}
 use Rattle.unit_core.specs.Histories.{History}
 use Rattle.history_laws.specs.Queues.{HasQueueInOrder, HasStalledRequester, LawQueued}
 use Rattle.unit_core.proofs.Runs.{own_state, of_each, own_induction}
-use Rattle.unit_core.proofs.Items.{submit_cases, judge_cases, all_append, all_of, all_without, count_append, count_without, count_released}
+use Rattle.unit_core.proofs.Items.{submit_cases, judge_cases, all_without, count_append, count_without, count_released}
 use Rattle.unit_core.proofs.Sims.{written_shape, recorded_shape, flags_after_len}
 use Rattle.unit_core.proofs.Busy.{flag_known}
 
@@ -61,7 +63,7 @@ opened_sound : (k : ℕ) (x : UnitState) (caller : ℕ) (a : Access) (queued : B
     → queue_length x + cond queued 1 0 ≤ x.registers.shape.queue → IsSound x → IsSound (opened k caller a queued x)
 opened_sound k x caller a queued s room h = record {
   flags = h.flags;
-  held = all_append (IsHeldBack x.flags) x.submissions _ h.held s;
+  held = all_push (IsHeldBack x.flags) x.submissions _ h.held s;
   fits = omega (arith, room, count_append x.submissions (record { place = k; caller = caller; access = a; queued = queued }));
 }
 

@@ -4,6 +4,7 @@ use Rattle.std.specs.Prelude.{slice_get, option_map}
 use Rattle.std.specs.List.{AllByRecursion}
 use Rattle.std.proofs.lemmas.Bool.{cases_eq, cases_lt, eqb-true}
 use Rattle.std.proofs.lemmas.Bool.Decides.{nat_tests}
+use Rattle.std.proofs.lemmas.List.{append-nil}
 use Rattle.event_words.specs.Registers.{index_of}
 use Rattle.event_words.specs.declared.register.Register.TheVariants.{Hwcfg0}
 use Rattle.event_words.specs.declared.shape.Shape.{Shape}
@@ -38,7 +39,7 @@ use Rattle.history_laws.proofs.WindowLaw.{law_windows}
 use Rattle.history_laws.proofs.VerdictLaw.{law_verdicts}
 use Rattle.history_laws.proofs.VerdictKinds.{verdict_kind, unknown_kind}
 use Rattle.history_laws.proofs.QuietRecords.{IsNoWriteEvent, IsNoLoggedWrite}
-use Rattle.history_laws.proofs.Writes.{writes, append_nothing, nothing_after, same_first, take_map, all_before, all_from, all_parts, all_filter}
+use Rattle.history_laws.proofs.Writes.{writes, nothing_after, same_first, take_map, all_before, all_from, all_parts, all_filter}
 use Rattle.history_laws.proofs.WriteRecords.{event_of, release_write, drain_read}
 use Rattle.history_laws.proofs.UnitStands.{UnitStands, IsOnZero, flag_from, flag_append, unit_stands}
 use Rattle.history_laws.proofs.LiveLists.{IsLive, IsLoggedOnZero}
@@ -175,7 +176,7 @@ module _ (old new : PolicyOf) (stalls tables : List RegPair) (h : History) (xs :
       → kind_at m a ≡ policy_decision new a
   after_case m r a valid rel after =
       let at = reading rel.place rel.reading.drained in
-      let all : done m ≡ stalls ++ (tables ++ release_write ∷ []) = sym (append_nothing (done m)) ∙ (ap (λ ws. done m ++ ws) (sym (rest_quiet m r rel after)) ∙ (cut m ∙ at.all)) in
+      let all : done m ≡ stalls ++ (tables ++ release_write ∷ []) = sym (append-nil (done m)) ∙ (ap (λ ws. done m ++ ws) (sym (rest_quiet m r rel after)) ∙ (cut m ∙ at.all)) in
       let same : SameValues ((image_of old).writes ++ done m) (image_of new).writes =
       λ i p q. ap (λ ws. value_of ((image_of old).writes ++ ws) i) all ∙ with_update old.shape (image_of old).writes (image_of new).writes stalls tables u.stalling u.rewrites i p q in
       decides_standing (unit (length u.live.boot + m)).registers new ((image_of old).writes ++ done m) u.good_new u.fits_new

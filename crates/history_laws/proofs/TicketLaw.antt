@@ -16,7 +16,8 @@ use Rattle.unit_core.specs.Histories.{History, event_at, reply_at}
 use Rattle.unit_core.specs.Submitted.{taken_at}
 use Rattle.history_laws.specs.Tickets.{StandsOnce, StandsAt, IsTaken, IsOwnJudgement, IsClosing, LawTickets}
 use Rattle.unit_core.proofs.Runs.{own_next, own_state, own_induction, own, own_at, as_it_is, event_taken, reply_of, reply_none, submit_of}
-use Rattle.unit_core.proofs.Items.{submit_cases, items_step, all_of, released_cases}
+use Rattle.event_words.proofs.ListItems.{all_of}
+use Rattle.unit_core.proofs.Items.{submit_cases, items_step, released_cases}
 use Rattle.history_laws.proofs.TicketSteps.{at, at_none, at_own, Stays, Closes, ticket_step, gone_step, IsBelow}
 
 -- ---- the submission itself

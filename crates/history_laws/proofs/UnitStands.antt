@@ -4,7 +4,7 @@ use Rattle.std.specs.Prelude.{slice_get, nat_le, option_and_then}
 use Rattle.std.specs.List.{AllByRecursion}
 use Rattle.std.specs.Int.{bit_at}
 use Rattle.std.proofs.lemmas.Nat.Bits.{bit_at-zero, bit_at-suc}
-use Rattle.std.proofs.lemmas.List.{length-set, length-replicate, get_or-set_same, get_or-set_other, get_or-replicate}
+use Rattle.std.proofs.lemmas.List.{length-set, length-replicate, get_or-set_same, get_or-set_other, get_or-replicate, append-nil}
 use Rattle.std.proofs.lemmas.List.FromFn.{get_or-map-range_with_len}
 use Rattle.std.proofs.lemmas.Bool.{cases_eq, cond-true, cond-false, cond_both, eq-eqb, ne_eqb, eqb-true}
 use Rattle.event_words.specs.declared.register.Register.TheVariants.{Hwcfg0, Mdstall, Mdstallh, Rridscp, Entrylck, ErrInfo, ErrReqaddr, ErrReqaddrh, ErrReqid, Mdcfg}
@@ -19,10 +19,10 @@ use Rattle.event_words.specs.Events.{unit_of}
 use Rattle.event_words.specs.Domains.{is_associated}
 use Rattle.event_words.specs.Denials.{recorded}
 use Rattle.event_words.specs.Stalls.{flag_of, is_selected, is_selected_domain, differs, flags_after, flags_after_mdstall, flags_after_rridscp}
+use Rattle.event_words.proofs.Ranges.{none_any}
 use Rattle.policy_compiler.specs.declared.image.RegPair.{RegPair}
 use Rattle.policy_compiler.specs.Policies.{IsPolicyShape}
 use Rattle.policy_compiler.specs.Images.{pair}
-use Rattle.policy_compiler.proofs.Finds.{any_none}
 use Rattle.policy_compiler.proofs.Standing.{Stands, IsNext, AreNext, stands_same, stands_step, stands_reset}
 use Rattle.unit_core.proofs.KeptBits.{other_stays}
 use Rattle.unit_core.specs.Units.{UnitState, unit_step, is_stalled, after_write, taken_as, wide_access}
@@ -32,7 +32,7 @@ use Rattle.unit_core.proofs.Items.{submit_cases, judge_cases}
 use Rattle.unit_core.proofs.Registers.{recorded_cases, recorded_outside}
 use Rattle.unit_core.proofs.Runs.{own_state, own_next, as_it_is}
 use Rattle.unit_core.proofs.Sims.{flags_after_len}
-use Rattle.history_laws.proofs.Writes.{write_of, writes, writes_next, writes_past, writes_cut, append_nothing, all_get}
+use Rattle.history_laws.proofs.Writes.{write_of, writes, writes_next, writes_past, writes_cut, all_get}
 
 -- ---- the flag of a requester
 
@@ -92,7 +92,7 @@ no_pair_bit v high m small z =
 
 none_selected : (r : Registers) (v s : ℕ) → v < 2 → reg r Mdstallh ≡ 0 → is_selected r v s ≡ false
 none_selected r v s small z =
-    any_none (λ m. is_selected_domain r v m && is_associated r s m) 0 r.shape.domains (λ m l u. ap (λ b. b && is_associated r s m) (no_pair_bit v (reg r Mdstallh) m small z))
+    none_any (λ m. is_selected_domain r v m && is_associated r s m) 0 r.shape.domains (λ m l u. ap (λ b. b && is_associated r s m) (no_pair_bit v (reg r Mdstallh) m small z))
 
 differs_none : (b : Bool) → differs b false ≡ b
 differs_none true = refl
@@ -168,7 +168,7 @@ write_stands h ps x index value good next c =
 quiet : (h : Shape) (ps : List RegPair) (x y : UnitState) → y.flags ≡ x.flags → Stands h ps y.registers
     → reg y.registers Mdstallh ≡ reg x.registers Mdstallh → UnitStands h ps x → UnitStands h (ps ++ []) y
 quiet h ps x y flags c high u =
-    subst (λ ws. UnitStands h ws y) (sym (append_nothing ps)) (record { registers = c; unselected = high ∙ u.unselected; count = ap length flags ∙ u.count; stalled = λ s l. ap (λ fs. flag_of fs s) flags ∙ u.stalled s l })
+    subst (λ ws. UnitStands h ws y) (sym (append-nil ps)) (record { registers = c; unselected = high ∙ u.unselected; count = ap length flags ∙ u.count; stalled = λ s l. ap (λ fs. flag_of fs s) flags ∙ u.stalled s l })
 
 -- A capture leaves what stands.
 captured : (h : Shape) (ps : List RegPair) (x y : UnitState) (a : Access) (d : Denial) → y.flags ≡ x.flags
@@ -196,7 +196,7 @@ IsOnZero (RegWrite unit caller index value) = unit ≡ 0
 IsOnZero _ = Unit {0}
 
 next_at : (h : Shape) (ps xs ys : List RegPair) (w : RegPair) → AreNext h ps (xs ++ w ∷ ys) → IsNext h (ps ++ xs) w
-next_at h ps [] ys w n = subst (λ zs. IsNext h zs w) (sym (append_nothing ps)) n.0
+next_at h ps [] ys w n = subst (λ zs. IsNext h zs w) (sym (append-nil ps)) n.0
 next_at h ps (x ∷ xs) ys w n = subst (λ zs. IsNext h zs w) (append_assoc ps (x ∷ []) xs) (next_at h (ps ++ x ∷ []) xs ys w n.1)
 
 next_write : (h : Shape) (es : List Event) (k : ℕ) (e : Event) (w : RegPair) → AreNext h [] (writes es) → slice_get es k ≡ Some e
@@ -244,7 +244,7 @@ passed : (h : Shape) (g : History) (k : ℕ) (x : UnitState) (o : Option Event) 
 passed h g k x None q all n c = subst (λ ws. UnitStands h ws x) (sym (writes_past g.events k q)) c
 passed h g k x (Some e) q all n c =
     let es = g.events in
-    subst (λ ws. UnitStands h ws x) (sym (writes_next es k e q ∙ (ap (λ ws. writes (take k es) ++ ws) (elsewhere g k e (all_get IsOnZero es k e all q) q n) ∙ append_nothing (writes (take k es))))) c
+    subst (λ ws. UnitStands h ws x) (sym (writes_next es k e q ∙ (ap (λ ws. writes (take k es) ++ ws) (elsewhere g k e (all_get IsOnZero es k e all q) q n) ∙ append-nil (writes (take k es))))) c
 
 -- Before each place unit 0 stands after the writes before it.
 pub unit_stands : (h : Shape) (g : History) → IsPolicyShape h → AreNext h [] (writes g.events) → AllByRecursion IsOnZero g.events → (k : ℕ)

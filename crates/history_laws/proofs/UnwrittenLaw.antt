@@ -6,6 +6,7 @@ use Rattle.std.proofs.lemmas.Bool.{cases_lt, eq-eqb, ne_eqb}
 use Rattle.std.proofs.lemmas.Option.{slice_get_within, slice_get-get_or}
 use Rattle.std.proofs.lemmas.List.Elements.{filter-append}
 use Rattle.std.proofs.Math.Seq.{take-append_seam}
+use Rattle.std.proofs.lemmas.List.{append-nil}
 use Rattle.event_words.specs.declared.shape.Shape.{Shape}
 use Rattle.event_words.specs.declared.access.Access.{Access}
 use Rattle.event_words.specs.declared.event.Event.{Event}
@@ -111,7 +112,7 @@ boot_words lanes words b =
     ∙ filter-append is_boot b.boot b.others
     ∙ ap (λ ws. ws ++ filter is_boot b.others) (keeps_all is_boot b.boot (boots b.boot b.of_boot))
     ∙ ap (λ ws. b.boot ++ ws) (keeps_none is_boot b.others (others b.others b.of_lanes))
-    ∙ append_none b.boot
+    ∙ append-nil b.boot
   where
     boots : (ws : List ℕ) → AllByRecursion IsBoot ws → AllByRecursion (λ w. is_boot w ≡ true) ws
     boots [] h = tt
@@ -120,10 +121,6 @@ boot_words lanes words b =
     others : (ws : List ℕ) → AllByRecursion (IsOfLane lanes) ws → AllByRecursion (λ w. is_boot w ≡ false) ws
     others [] h = tt
     others (w ∷ ws) h = (ne_eqb (caller_of_word w) 0 (λ e. let l = h.0.0 in absurd (omega arith)), others ws h.1)
-
-    append_none : (ws : List ℕ) → ws ++ [] ≡ ws
-    append_none [] = refl
-    append_none (w ∷ ws) = ap (λ vs. w ∷ vs) (append_none ws)
 
 -- The units before the first event of a lane.
 pub units_booted : (shapes : List Shape) (lanes : ℕ) (words : List ℕ) → AllByRecursion IsEventWord words → (b : BootComesFirst lanes words)

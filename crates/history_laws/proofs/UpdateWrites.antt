@@ -1,16 +1,17 @@
 -- What an update's writes leave: the old policy's values while requesters stall, and the new one's at the end.
 use Rattle.std.proofs.Common.{◌≡◌, ℕ, ◌<◌, inl, inr, None, List, [], ◌∷◌, ◌++◌, refl, sym, ap, subst, ◌∙◌, arith, append_assoc, ◌+◌}
 use Rattle.std.specs.List.{AllByRecursion}
+use Rattle.std.proofs.lemmas.List.{append-nil}
 use Rattle.event_words.specs.Registers.{index_of}
 use Rattle.event_words.specs.declared.register.Register.TheVariants.{Hwcfg0, Hwcfg2, Mdstall, Rridscp, Entrylck}
 use Rattle.event_words.specs.declared.shape.Shape.{Shape}
+use Rattle.event_words.proofs.ListItems.{all_append}
 use Rattle.policy_compiler.specs.declared.image.RegPair.{RegPair}
 use Rattle.policy_compiler.specs.Policies.{PolicyOf, IsPolicy}
 use Rattle.policy_compiler.specs.Needs.{need_refusal}
 use Rattle.policy_compiler.specs.Images.{image_of}
 use Rattle.policy_compiler.proofs.Standing.{value_from, value_of, value_append, value_other, IsRewrite, IsStall, IsTame, AreNext}
 use Rattle.policy_compiler.proofs.Decisive.{SameValues, IsImageWrite, image_each}
-use Rattle.history_laws.proofs.Writes.{append_nothing, all_both}
 use Rattle.history_laws.proofs.WriteRecords.{release_write}
 use Rattle.history_laws.proofs.PlanParts.{IsUpdate, AreNot, value_kept, StallNobody, StallsNobody}
 
@@ -68,8 +69,8 @@ update_not_enable h stalls tables ws each all update = by update
     by (inl e) = subst (AreNot (index_of Hwcfg0)) (sym e) first
     by (inr e) =
         subst (AreNot (index_of Hwcfg0)) (sym e)
-        (all_both (λ (w : RegPair). w.index ≡ index_of Hwcfg0 → ⊥) stalls (tables ++ release_write ∷ []) first
-        (all_both (λ (w : RegPair). w.index ≡ index_of Hwcfg0 → ⊥) tables (release_write ∷ []) (rewrites_not h tables (index_of Hwcfg0) (omega arith) (λ e. absurd (omega arith)) all) (λ e. absurd (omega arith), tt)))
+        (all_append (λ (w : RegPair). w.index ≡ index_of Hwcfg0 → ⊥) stalls (tables ++ release_write ∷ []) first
+        (all_append (λ (w : RegPair). w.index ≡ index_of Hwcfg0 → ⊥) tables (release_write ∷ []) (rewrites_not h tables (index_of Hwcfg0) (omega arith) (λ e. absurd (omega arith)) all) (λ e. absurd (omega arith), tt)))
 
 -- ---- what may come next
 
@@ -78,7 +79,7 @@ tame_next h ps [] all = tt
 tame_next h ps (w ∷ ws) all = (inl all.0, tame_next h (ps ++ w ∷ []) ws all.1)
 
 pub next_both : (h : Shape) (ps xs ys : List RegPair) → AreNext h ps xs → AreNext h (ps ++ xs) ys → AreNext h ps (xs ++ ys)
-next_both h ps [] ys a b = subst (λ zs. AreNext h zs ys) (append_nothing ps) b
+next_both h ps [] ys a b = subst (λ zs. AreNext h zs ys) (append-nil ps) b
 next_both h ps (x ∷ xs) ys a b = (a.0, next_both h (ps ++ x ∷ []) xs ys a.1 (subst (λ zs. AreNext h zs ys) (sym (append_assoc ps (x ∷ []) xs)) b))
 
 stalls_tame : (h : Shape) (ws : List RegPair) → AllByRecursion IsStall ws → AllByRecursion (IsTame h) ws
@@ -98,8 +99,8 @@ pub update_tame : (h : Shape) (stalls tables ws : List RegPair) → AllByRecursi
 update_tame h stalls tables ws each all (inl e) = subst (AllByRecursion (IsTame h)) (sym e) (stalls_tame h stalls each)
 update_tame h stalls tables ws each all (inr e) =
     subst (AllByRecursion (IsTame h)) (sym e)
-    (all_both (IsTame h) stalls (tables ++ release_write ∷ []) (stalls_tame h stalls each)
-    (all_both (IsTame h) tables (release_write ∷ []) (rewrites_tame h tables all) (inr (inl (inl (refl, omega arith))), tt)))
+    (all_append (IsTame h) stalls (tables ++ release_write ∷ []) (stalls_tame h stalls each)
+    (all_append (IsTame h) tables (release_write ∷ []) (rewrites_tame h tables all) (inr (inl (inl (refl, omega arith))), tt)))
 
 -- ---- the values
 

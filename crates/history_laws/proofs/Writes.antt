@@ -2,6 +2,7 @@
 use Rattle.std.proofs.Common.{◌≡◌, ℕ, zero, suc, ◌+◌, ◌<◌, ◌≤◌, ◌++◌, inl, inr, ◌⊎◌, Bool, true, false, cond, List, [], ◌∷◌, Option, Some, None, length, map, filter, take, drop, append_assoc, refl, sym, ap, subst, ◌∙◌, arith}
 use Rattle.std.specs.Prelude.{slice_get, IsSome}
 use Rattle.std.specs.List.{AllByRecursion}
+use Rattle.std.proofs.lemmas.List.{append-nil}
 use Rattle.event_words.specs.declared.event.Event.{Event}
 use Rattle.event_words.specs.declared.event.Event.TheVariants.{RegWrite}
 use Rattle.policy_compiler.specs.declared.image.RegPair.{RegPair}
@@ -20,15 +21,11 @@ pub writes_append : (es fs : List Event) → writes (es ++ fs) ≡ writes es ++ 
 writes_append [] fs = refl
 writes_append (e ∷ es) fs = ap (λ ws. write_of e ++ ws) (writes_append es fs) ∙ sym (append_assoc (write_of e) (writes es) (writes fs))
 
-pub append_nothing : {A : Type 0} (xs : List A) → xs ++ [] ≡ xs
-append_nothing [] = refl
-append_nothing (x ∷ xs) = ap (λ ys. x ∷ ys) (append_nothing xs)
-
 -- The writes before the next place.
 pub writes_next : (es : List Event) (k : ℕ) (e : Event) → slice_get es k ≡ Some e
     → writes (take (suc k) es) ≡ writes (take k es) ++ write_of e
 writes_next [] k e h = absurd (let n : None ≡ Some e = h in cc)
-writes_next (f ∷ es) zero e h = let same : f ≡ e = cc in append_nothing (write_of f) ∙ ap write_of same
+writes_next (f ∷ es) zero e h = let same : f ≡ e = cc in append-nil (write_of f) ∙ ap write_of same
 writes_next (f ∷ es) (suc k) e h = ap (λ ws. write_of f ++ ws) (writes_next es k e h) ∙ sym (append_assoc (write_of f) (writes (take k es)) (write_of e))
 
 pub writes_past : (es : List Event) (k : ℕ) → slice_get es k ≡ None → writes (take (suc k) es) ≡ writes (take k es)
@@ -79,10 +76,6 @@ all_get P (y ∷ xs) (suc k) x all h = all_get P xs k x all.1 h
 pub all_parts : {A : Type 0} (P : A → Type 0) (xs ys : List A) → AllByRecursion P (xs ++ ys) → AllByRecursion P xs × AllByRecursion P ys
 all_parts P [] ys h = (tt, h)
 all_parts P (x ∷ xs) ys h = let rest = all_parts P xs ys h.1 in ((h.0, rest.0), rest.1)
-
-pub all_both : {A : Type 0} (P : A → Type 0) (xs ys : List A) → AllByRecursion P xs → AllByRecursion P ys → AllByRecursion P (xs ++ ys)
-all_both P [] ys a b = b
-all_both P (x ∷ xs) ys a b = (a.0, all_both P xs ys a.1 b)
 
 pub all_filter : {A : Type 0} (P : A → Type 0) (p : A → Bool) (xs : List A) → AllByRecursion P xs → AllByRecursion P (filter p xs)
 all_filter P p [] h = tt

@@ -21,18 +21,16 @@ use Rattle.unit_core.specs.Submissions.{SubmittedAccess, submitted}
 use Rattle.unit_core.specs.Units.{UnitState, unit_step, judge_step, taken_as, submission_of, wide_access, taken_step, event_step}
 use Rattle.unit_core.specs.Histories.{History, history_of, with_event, events_of_words, logged_in, units_at, aims_at, event_at, reply_at, state_at}
 use Rattle.unit_core.specs.Submitted.{taken_at, submission_at}
-use Rattle.unit_core.proofs.Runs.{reply_is, reply_none}
+use Rattle.unit_core.proofs.Runs.{reply_is, reply_none, some_same}
 use Rattle.unit_core.proofs.Items.{judge_cases}
 use Rattle.history_laws.specs.Verdicts.{LawVerdicts}
 use Rattle.history_laws.proofs.WordHistories.{is_entry, has_entry, length_logged}
 use Rattle.fault_windows.specs.declared.Shown.{Shown}
 use Rattle.fault_windows.specs.LateViolations.{requester_in, requester_of, is_kept_violation}
 use Rattle.fault_windows.specs.Monitors.{MonitorOf, HasSeen, requester_at, IsPlace, shown_by}
+use Rattle.fault_windows.proofs.Idle.{by_end, taken_is}
 use Rattle.history_reports.specs.WindowLines.{line_of, reading_line}
 use Rattle.history_reports.specs.Requesters.{submitter, submitter_at, requester_by, HasValidEvent}
-
-some_reply : (a b : Reply) → Some a ≡ Some b → a ≡ b
-some_reply a b e = cc
 
 -- ---- events are valid, and requesters are small
 
@@ -85,9 +83,6 @@ small_item events k rrid d all l r =
 
 -- ---- whose access is submitted at a place
 
-by_end : (P : Option Event → Type 0) (unit caller : ℕ) (a : Access) → P (Some (Submit unit caller a)) → P None → P (submission_of unit caller a)
-by_end P unit caller a x y = cond_both (leb (a.addr + a.len) (2 ^ 52)) (Some (Submit unit caller a)) None P (λ e. x) (λ e. y)
-
 abbrev Submits : List ℕ → Option Event → SubmittedAccess → Type 0
 Submits aims o s = option_and_then submitted (option_and_then (taken_as aims) o) ≡ Some s
 
@@ -110,19 +105,16 @@ submitter_is aims (Some (Wide v c rrid kind len)) s q = (
 
 -- ---- a kept violation has the requester that is looked up
 
-taken_is : (h : History) (k : ℕ) (e : Event) → event_at h k ≡ Some e → taken_at h k ≡ taken_as (aims_at h k) e
-taken_is h k e p = ap (option_and_then (taken_as (aims_at h k))) p
-
 reply_by : (h : History) (k : ℕ) (e : Event) (r : Reply) → event_at h k ≡ Some e → reply_at h k ≡ Some r → (event_step k (aims_at h k) (units_at h k) e).1 ≡ r
 reply_by h k e r p q =
-    some_reply _ r (sym (ap (option_map (λ e. (event_step k (aims_at h k) (units_at h k) e).1)) p) ∙ q)
+    some_same _ r (sym (ap (option_map (λ e. (event_step k (aims_at h k) (units_at h k) e).1)) p) ∙ q)
 
 -- what holds of the reply of each unit and of NoSuch holds of the reply
 reply_from : (P : Reply → Type 0) (h : History) (k : ℕ) (e : Event) (u : ℕ) (r : Reply) → unit_of e ≡ Some u → taken_at h k ≡ Some e → reply_at h k ≡ Some r → P replies.NoSuch → ((x : UnitState) → P (unit_step k x e).1) → P r
 reply_from P h k e u r w p q none each = by_state (state_at h k u) refl
   where
     by_state : (o : Option UnitState) → state_at h k u ≡ o → P r
-    by_state None s = subst P (some_reply replies.NoSuch r (sym (reply_none h k e u w p s) ∙ q)) none
+    by_state None s = subst P (some_same replies.NoSuch r (sym (reply_none h k e u w p s) ∙ q)) none
     by_state (Some x) s = subst P (reply_is h k e u r x w p q s) (each x)
 
 not_stalled : (x : UnitState) (place caller : ℕ) (d : Denial) → (judge_step x place caller).1 ≡ replies.Stalled d → ⊥

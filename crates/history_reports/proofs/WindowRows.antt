@@ -9,16 +9,8 @@ use Rattle.event_words.specs.declared.event.Event.{Event}
 use Rattle.event_words.specs.declared.event.Event.TheVariants.{RegWrite, RegRead, Submit, Judge}
 use Rattle.event_words.specs.Word.{word_of}
 use Rattle.fault_windows.specs.Windows.{pending_after, window_bits}
+use Rattle.fault_windows.proofs.Examples.{small, byte_at, opening}
 use Rattle.history_reports.specs.WindowLines.{windows_text}
-
-abbrev small : Shape
-small = record { rrids = 4; domains = 3; entries = 8; mdcfg = 0; k = 0; srcmd = 0; sps = false; queue = 1; transl = None }
-
-abbrev byte_at : ℕ → Kind → ℕ → Access
-byte_at rrid kind addr = record { rrid = rrid; kind = kind; addr = addr; len = 1 }
-
-abbrev opening : List Event
-opening = RegWrite 0 0 0x200 8 ∷ RegWrite 0 0 0x418 2 ∷ RegWrite 0 0 2 1 ∷ []
 
 abbrev twice : List ℕ
 twice = map word_of (opening ++ Submit 0 0 (byte_at 3 Read 0x10) ∷ Judge 0 0 3 ∷ Submit 0 0 (byte_at 3 Write 0x20) ∷ Judge 0 0 5 ∷ RegRead 0 0 29 ∷ RegRead 0 0 29 ∷ [])

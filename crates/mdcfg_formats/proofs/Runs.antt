@@ -5,7 +5,8 @@ use Rattle.std.proofs.lemmas.Bool.Decides.{nat_tests}
 use Rattle.event_words.specs.Registers.{Registers}
 use Rattle.event_words.specs.Domains.{bound_of, is_bounded_by, owner_of}
 use Rattle.event_words.proofs.Cases.{by_test}
-use Rattle.mdcfg_formats.proofs.Searches.{first_of_find, find_of_first, find_none}
+use Rattle.event_words.proofs.Ranges.{find_none}
+use Rattle.mdcfg_formats.proofs.Searches.{first_of_find, find_of_first}
 
 -- No entry from `from` on, below a limit, belongs to a domain below d.
 abbrev pub IsStart : Registers → ℕ → ℕ → ℕ → Type 0

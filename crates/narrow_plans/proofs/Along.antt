@@ -1,6 +1,7 @@
 -- Views along the states between two images.
 use Rattle.std.proofs.Common.{◌≡◌, ℕ, ◌+◌, ◌<◌, ◌≤◌, Bool, true, false, not, ◌&&◌, List, [], ◌∷◌, length, drop, drop-cons, drop_of_length-le, add-one, get_or, refl, sym, ap, ◌∙◌}
 use Rattle.std.specs.List.{list_all}
+use Rattle.std.proofs.lemmas.List.{drop_more}
 use Rattle.event_words.specs.Registers.{Registers, word_at}
 use Rattle.event_words.specs.Guards.{guarded_bits}
 use Rattle.policy_compiler.specs.declared.image.RegPair.{RegPair}
@@ -35,14 +36,11 @@ after_more r ws i d l = rw (drop-cons ws i d l, add-one i) refl
 abbrev pub all_have : ℕ → List EntryView → Registers → List RegPair → Bool
 all_have s view r ws = list_all (has_view s view) (states_after r ws)
 
-drop_here : (ws : List RegPair) (i : ℕ) (d : RegPair) → i < length ws → drop i ws ≡ get_or ws i d ∷ drop (i + 1) ws
-drop_here ws i d l = rw (add-one i) (drop-cons ws i d l)
-
 -- a state with the view, and the states after the next write
 next_state : (r : Registers) (s : ℕ) (view : List EntryView) (ws : List RegPair) (i : ℕ) (d : RegPair) → i < length ws
     → true ≡ has_view s view r → all_have s view r (drop i ws) ≡ all_have s view (guarded_write r (get_or ws i d)) (drop (i + 1) ws)
 next_state r s view ws i d l t =
-    ap (all_have s view r) (drop_here ws i d l) ∙ (ap (λ b. b && all_have s view (guarded_write r (get_or ws i d)) (drop (i + 1) ws)) (sym t))
+    ap (all_have s view r) (drop_more ws i d l) ∙ (ap (λ b. b && all_have s view (guarded_write r (get_or ws i d)) (drop (i + 1) ws)) (sym t))
 
 -- a state with another view
 other_view : (r : Registers) (s : ℕ) (view : List EntryView) (ws : List RegPair) → false ≡ has_view s view r → false ≡ all_have s view r ws

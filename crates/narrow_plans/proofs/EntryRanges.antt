@@ -4,12 +4,12 @@ use Rattle.std.specs.Int.{trailing_ones, w64}
 use Rattle.std.proofs.lemmas.Nat.{pow_pos}
 use Rattle.std.proofs.lemmas.Bool.Decides.{nat_tests}
 use Rattle.event_words.specs.Registers.{Registers}
-use Rattle.event_words.specs.Entries.{word_address, mode_of, bottom_of, is_byte_of, is_byte_by}
+use Rattle.event_words.specs.Entries.{word_address, mode_of, bottom_of, is_byte_of, is_byte_by, is_between}
 use Rattle.event_words.specs.declared.address_mode.AddressMode.{AddressMode}
 use Rattle.event_words.specs.declared.address_mode.AddressMode.TheVariants.{Off, Tor, Na4, Napot}
 use Rattle.event_words.proofs.Cases.{by_test}
 use Rattle.event_words.proofs.Blocks.{block_bytes}
-use Rattle.entry_ranges.specs.Ranges.{HoldsBytes, is_between}
+use Rattle.entry_ranges.specs.Ranges.{HoldsBytes}
 use Rattle.narrow_plans.specs.Views.{range_up_to, range_by_mode, entry_range}
 
 no_byte : (bottom top x : ℕ) → ltb bottom top ≡ false → is_between bottom top x ≡ false

@@ -2,6 +2,7 @@
 -- affected one has the old policy's up to the drained reading and the new one's after the release.
 use Rattle.std.proofs.Common.{◌≡◌, ◌⊎◌, ℕ, ◌+◌, ◌-◌, ◌<◌, ◌++◌, inl, inr, false, List, [], ◌∷◌, Some, length, append_assoc, refl, sym, ap, subst, ◌∙◌, arith}
 use Rattle.std.specs.List.{AllByRecursion}
+use Rattle.std.proofs.lemmas.List.{append-nil}
 use Rattle.event_words.specs.declared.access.Access.{Access}
 use Rattle.event_words.specs.declared.event.Event.{Event}
 use Rattle.event_words.specs.declared.event.Event.TheVariants.{RegWrite, Submit, Judge}
@@ -9,6 +10,7 @@ use Rattle.event_words.specs.declared.record.LoggedEvent.{LoggedEvent}
 use Rattle.event_words.specs.declared.reply.Reply.TheVariants as replies
 use Rattle.event_words.specs.declared.reply.Verdict.{Verdict as AnyVerdict}
 use Rattle.event_words.specs.Valid.{IsValidAccess}
+use Rattle.event_words.proofs.ListItems.{all_append}
 use Rattle.policy_compiler.specs.declared.image.RegPair.{RegPair}
 use Rattle.policy_compiler.specs.Policies.{PolicyOf}
 use Rattle.policy_compiler.specs.Images.{pair, image_of}
@@ -22,7 +24,7 @@ use Rattle.unit_core.specs.Histories.{History, event_at, reply_at, history_of, l
 use Rattle.unit_core.specs.Submitted.{IsSubmission}
 use Rattle.unit_core.proofs.Runs.{own_at, reply_of, submit_of}
 use Rattle.history_laws.proofs.QuietRecords.{IsNoWriteEvent}
-use Rattle.history_laws.proofs.Writes.{write_of, append_nothing, all_parts, all_both, CutInFirst, CutInSecond, two_cuts}
+use Rattle.history_laws.proofs.Writes.{write_of, all_parts, CutInFirst, CutInSecond, two_cuts}
 use Rattle.history_laws.proofs.WriteRecords.{release_write}
 use Rattle.history_laws.proofs.UnitStands.{flag_from, flag_append, taken_from}
 use Rattle.history_laws.proofs.PlanParts.{IsUpdate, StallNobody, flag_kept}
@@ -55,7 +57,7 @@ module _ (old stalls tables : List RegPair) (each : AllByRecursion IsStall stall
   stalling : (done more : List RegPair) → stalls ≡ done ++ more → IsOnTheWay old tables done
   stalling done more e =
       let part = all_parts IsStall done more (subst (AllByRecursion IsStall) e each) in
-      record { part = []; rest = tables; is = refl; same = λ i p q. with_stalls old done part.0 i p q ∙ ap (λ xs. value_of xs i) (sym (append_nothing old)) }
+      record { part = []; rest = tables; is = refl; same = λ i p q. with_stalls old done part.0 i p q ∙ ap (λ xs. value_of xs i) (sym (append-nil old)) }
 
   rewriting : (done part to_do : List RegPair) → done ≡ stalls ++ part → part ++ to_do ≡ tables ++ release_write ∷ []
       → IsOnTheWay old tables done
@@ -65,13 +67,13 @@ module _ (old stalls tables : List RegPair) (each : AllByRecursion IsStall stall
       same i p q = ap (λ ws. value_of (old ++ ws) i) e ∙ past_stalls old stalls part each i p q
 
       last : (more : List RegPair) → more ++ to_do ≡ release_write ∷ [] → part ≡ tables ++ more → IsOnTheWay old tables done
-      last [] g t = record { part = part; rest = []; is = sym (append_nothing part ∙ (t ∙ append_nothing tables)); same = same }
+      last [] g t = record { part = part; rest = []; is = sym (append-nil part ∙ (t ∙ append-nil tables)); same = same }
       last (w ∷ []) g t =
           let release_is : w ≡ release_write = cc in
           record {
             part = tables;
             rest = [];
-            is = sym (append_nothing tables);
+            is = sym (append-nil tables);
             same = λ i p q. same i p q ∙ (ap (λ ws. value_of (old ++ ws) i) (t ∙ ap (λ v. tables ++ v ∷ []) release_is) ∙ with_release old tables i p q);
           }
       last (w ∷ (v ∷ more)) g t = absurd (let n : v ∷ (more ++ to_do) ≡ [] = cc in cc)
@@ -101,7 +103,7 @@ update_spares : (s : ℕ) (stalls tables whole : List RegPair) → AllByRecursio
 update_spares s stalls tables whole spares quiet (inl e) = subst (AllByRecursion (Spares s)) (sym e) spares
 update_spares s stalls tables whole spares quiet (inr e) =
     subst (AllByRecursion (Spares s)) (sym e)
-    (all_both (Spares s) stalls (tables ++ release_write ∷ []) spares (all_both (Spares s) tables (release_write ∷ []) (nobody_spares s tables quiet) (refl, tt)))
+    (all_append (Spares s) stalls (tables ++ release_write ∷ []) spares (all_append (Spares s) tables (release_write ∷ []) (nobody_spares s tables quiet) (refl, tt)))
 
 -- ---- a narrow update
 

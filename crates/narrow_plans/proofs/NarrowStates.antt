@@ -2,6 +2,7 @@
 use Rattle.std.proofs.Common.{◌≡◌, ℕ, ◌≤◌, ◌++◌, ◌==◌, true, None, List, [], ◌∷◌, refl, sym, ap, subst, ◌∙◌, arith}
 use Rattle.std.specs.List.{AllByRecursion, list_all}
 use Rattle.std.proofs.lemmas.Bool.{and_parts}
+use Rattle.std.proofs.lemmas.List.{append-nil}
 use Rattle.event_words.specs.declared.register.Register.TheVariants.{Hwcfg0, Hwcfg2, Mdcfg}
 use Rattle.event_words.specs.declared.shape.Shape.{Shape}
 use Rattle.event_words.specs.declared.access.Access.{Access}
@@ -18,7 +19,8 @@ use Rattle.policy_compiler.specs.Decides.{policy_decision}
 use Rattle.policy_compiler.specs.Laws.{guarded_write, after_writes, registers_after, kind_of}
 use Rattle.policy_compiler.proofs.Standing.{value_of, value_append, Stands, IsRewrite, stands_written}
 use Rattle.policy_compiler.proofs.Decisive.{SameValues, decides_standing, image_shape, image_next, image_enables}
-use Rattle.history_laws.proofs.Writes.{append_nothing, all_parts}
+use Rattle.policy_compiler.proofs.Plain.{after_append}
+use Rattle.history_laws.proofs.Writes.{all_parts}
 use Rattle.history_laws.proofs.PlanParts.{AreNot, value_kept}
 use Rattle.history_laws.proofs.UpdateWrites.{Rewrites, tame_next, next_both, rewrites_tame, rewrites_not}
 use Rattle.history_laws.proofs.SameTables.{decide_alike}
@@ -67,10 +69,6 @@ states_each : (P : Registers → Type 0) (r : Registers) (ws : List RegPair)
 states_each P r [] each = (each [] [] refl, tt)
 states_each P r (w ∷ ws) each = (each [] (w ∷ ws) refl, states_each P (guarded_write r w) ws (λ part rest e. each (w ∷ part) rest (ap (λ vs. w ∷ vs) e)))
 
-after_both : (r : Registers) (ps qs : List RegPair) → after_writes r (ps ++ qs) ≡ after_writes (after_writes r ps) qs
-after_both r [] qs = refl
-after_both r (p ∷ ps) qs = after_both (guarded_write r p) ps qs
-
 -- ---- equal views
 
 all_see : (s : ℕ) (view : List EntryView) (rs : List Registers) → list_all (has_view s view) rs ≡ true
@@ -105,7 +103,7 @@ module _ (old new : PolicyOf) (b : AreBetween old new) where
       let next = next_both old.shape [] (image_of old).writes part (image_next old b.good_old b.fits_old) tame in
       let all = stands_written old.shape ((image_of old).writes ++ part) b.good_old.shape next in
       subst (λ r. Stands old.shape ((image_of old).writes ++ part) r)
-      (after_both (at_reset old.shape) (image_of old).writes part ∙ ap (λ h. after_writes (after_writes (at_reset h) (image_of old).writes) part) (sym (image_shape old))) all
+      (after_append (at_reset old.shape) (image_of old).writes part ∙ ap (λ h. after_writes (after_writes (at_reset h) (image_of old).writes) part) (sym (image_shape old))) all
 
   -- the enable bit stays set
   enabled : (part rest : List RegPair) → tables ≡ part ++ rest → is_enabled (state part) ≡ true
@@ -135,19 +133,19 @@ module _ (old new : PolicyOf) (b : AreBetween old new) where
     first_kind : kind_of (decision (state []) a) ≡ policy_decision old a
     first_kind =
         decides_standing (state []) old ((image_of old).writes ++ []) b.good_old b.fits_old (state_stands [] tables refl)
-        (λ i p q. ap (λ ws. value_of ws i) (append_nothing (image_of old).writes)) a valid
+        (λ i p q. ap (λ ws. value_of ws i) (append-nil (image_of old).writes)) a valid
 
     last_kind : kind_of (decision (state tables) a) ≡ policy_decision new a
     last_kind =
         decides_standing (state tables) new ((image_of old).writes ++ tables) b.good_new b.fits_new
-        (subst (λ h. Stands h ((image_of old).writes ++ tables) (state tables)) b.shapes (state_stands tables [] (sym (append_nothing tables))))
+        (subst (λ h. Stands h ((image_of old).writes ++ tables) (state tables)) b.shapes (state_stands tables [] (sym (append-nil tables))))
         (λ i p q. value_append 0 (image_of old).writes tables i ∙ rewrites.values i) a valid
 
     -- A state between decides it as both policies do.
     pub of_both : (part rest : List RegPair) → tables ≡ part ++ rest → IsOfBoth old new a (kind_of (decision (state part) a))
     of_both part rest e =
         let same = same_kind part rest e in
-        (same ∙ first_kind, same ∙ (sym (same_kind tables [] (sym (append_nothing tables))) ∙ last_kind))
+        (same ∙ first_kind, same ∙ (sym (same_kind tables [] (sym (append-nil tables))) ∙ last_kind))
 
   pub all_decide_alike : AllDecideAlike old new
   unfolding between_states table_writes

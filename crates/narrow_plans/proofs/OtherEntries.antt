@@ -2,7 +2,7 @@
 use Rattle.std.proofs.Common.{◌≡◌, ◌≢◌, ℕ, suc, zero, ◌+◌, ◌-◌, ◌*◌, ◌^◌, ◌<◌, ◌≤◌, Bool, true, false, ◌&&◌, ◌==◌, ltb, if◌then◌else◌, List, [], ◌∷◌, Option, Some, None, get_or, set, length, find, subst, refl, sym, ap, ◌∙◌, arith}
 use Rattle.std.specs.List.{range_with_len, filter_map}
 use Rattle.std.specs.Option.{option_map}
-use Rattle.std.proofs.lemmas.List.{get_or-set_other, get_or-set_same, set-get_or}
+use Rattle.std.proofs.lemmas.List.{get_or-set_other, get_or-set_same, set-get_or, set_past}
 use Rattle.std.proofs.lemmas.Bool.{ltb-true}
 use Rattle.std.proofs.lemmas.Bool.Decides.{nat_tests}
 use Rattle.unit_core.proofs.Sims.{written_shape}
@@ -201,11 +201,6 @@ set_back r index word h = by_test (ltb index (length r.words)) _
     let e : word ≡ get_or r.words index 0 = sym (get_or-set_same r.words index word 0 (ltb-true index (length r.words) t)) ∙ h in
     ap (λ ws. record { shape = r.shape; words = ws }) (ap (set r.words index) e ∙ set-get_or r.words index 0))
     (λ t. ap (λ ws. record { shape = r.shape; words = ws }) (set_past r.words index word (let l : length r.words ≤ index = grind (arith, nat_tests) in l)))
-  where
-    set_past : (ws : List ℕ) (k x : ℕ) → length ws ≤ k → set ws k x ≡ ws
-    set_past [] k x l = refl
-    set_past (w ∷ ws) zero x l = absurd (omega arith)
-    set_past (w ∷ ws) (suc k) x l = ap (λ vs. w ∷ vs) (set_past ws k x (omega arith))
 
 words_stay : (before : Registers) (index value keep : ℕ) (o : Option Register)
     → SameBut index (write_at before index value keep o).words before.words

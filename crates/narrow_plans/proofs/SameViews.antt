@@ -2,6 +2,8 @@
 use Rattle.std.proofs.Common.{◌≡◌, ℕ, ◌+◌, ◌<◌, Bool, true, false, ◌&&◌, eqb, List, [], ◌∷◌, length, drop, drop-cons, add-one, get_or, arith, refl, sym, ap, ◌∙◌}
 use Rattle.std.specs.Bool.{beq}
 use Rattle.std.proofs.lemmas.Bool.Decides.{nat_tests}
+use Rattle.std.proofs.Math.Bool.{and-false}
+use Rattle.std.proofs.lemmas.Bool.{and_parts}
 use Rattle.narrow_plans.specs.Views.{EntryView, same_entry, same_view}
 
 same_number : (n : ℕ) → eqb n n ≡ true
@@ -23,11 +25,7 @@ pub longer : (es fs : List EntryView) → (length es ≡ length fs → ⊥) → 
 longer [] [] ne = absurd (ne refl)
 longer [] (f ∷ fs) ne = refl
 longer (e ∷ es) [] ne = refl
-longer (e ∷ es) (f ∷ fs) ne = rw (sym (longer es fs (λ q. ne (omega (arith, q))))) (sym (and_false (same_entry e f)))
-  where
-    and_false : (b : Bool) → (b && false) ≡ false
-    and_false true = refl
-    and_false false = refl
+longer (e ∷ es) (f ∷ fs) ne = rw (sym (longer es fs (λ q. ne (omega (arith, q))))) (sym (and-false (same_entry e f)))
 
 from_here : (es fs : List EntryView) (i : ℕ) (d c : EntryView) → i < length es → i < length fs
     → same_view (drop i es) (drop i fs) ≡ (same_entry (get_or es i d) (get_or fs i c) && same_view (drop (i + 1) es) (drop (i + 1) fs))
@@ -52,10 +50,6 @@ true_bool false false t = refl
 true_number : (m n : ℕ) → eqb m n ≡ true → m ≡ n
 true_number m n t = grind (arith, nat_tests)
 
-both : (a b : Bool) → (a && b) ≡ true → (a ≡ true) × (b ≡ true)
-both true b t = (refl, t)
-both false b t = absurd (cc)
-
 abbrev entry_of : Bool → ℕ → ℕ → Bool → Bool → Bool → EntryView
 entry_of priority from to read write fetch = record { priority = priority; from = from; to = to; read = read; write = write; fetch = fetch }
 
@@ -65,11 +59,11 @@ same_fields p q m n k l a b c d e f h1 h2 h3 h4 h5 h6 = rw (h1, h2, h3, h4, h5, 
 
 true_entry : (e f : EntryView) → same_entry e f ≡ true → e ≡ f
 true_entry e f t =
-    let x = both _ _ t in
-    let y = both _ _ x.1 in
-    let z = both _ _ y.1 in
-    let u = both _ _ z.1 in
-    let v = both _ _ u.1 in
+    let x = and_parts _ _ t in
+    let y = and_parts _ _ x.1 in
+    let z = and_parts _ _ y.1 in
+    let u = and_parts _ _ z.1 in
+    let v = and_parts _ _ u.1 in
     same_fields _ _ _ _ _ _ _ _ _ _ _ _ (true_bool _ _ x.0) (true_number _ _ y.0) (true_number _ _ z.0) (true_bool _ _ u.0) (true_bool _ _ v.0) (true_bool _ _ v.1)
 
 pub true_view : (es fs : List EntryView) → same_view es fs ≡ true → es ≡ fs
@@ -77,5 +71,5 @@ true_view [] [] t = refl
 true_view [] (f ∷ fs) t = absurd (cc)
 true_view (e ∷ es) [] t = absurd (cc)
 true_view (e ∷ es) (f ∷ fs) t =
-    let x = both _ _ t in
+    let x = and_parts _ _ t in
     ap (λ y. y ∷ es) (true_entry e f x.0) ∙ ap (λ ys. f ∷ ys) (true_view es fs x.1)

@@ -11,13 +11,13 @@ use Rattle.event_words.specs.Valid.{IsValidAccess}
 use Rattle.event_words.specs.Registers.{Registers}
 use Rattle.event_words.specs.Guards.{is_enabled}
 use Rattle.event_words.specs.Domains.{is_known}
-use Rattle.event_words.specs.Entries.{is_byte_of, bytes_of, covers}
+use Rattle.event_words.specs.Entries.{is_byte_of, bytes_of, covers, is_between}
 use Rattle.event_words.specs.Decisions.{is_entry_of, entry_grants, prio_count, entries, is_touching, is_covering, decide_by_hit, by_covering, covering, violation, illegal, decision}
 use Rattle.event_words.specs.declared.reply.Decision.TheVariants.{Allowed}
 use Rattle.event_words.specs.Word.{kind_code}
 use Rattle.event_words.proofs.Cases.{by_test}
 use Rattle.entry_ranges.specs.declared.ByteRange.{ByteRange}
-use Rattle.entry_ranges.specs.Ranges.{HoldsBytes, is_between}
+use Rattle.entry_ranges.specs.Ranges.{HoldsBytes}
 use Rattle.policy_compiler.specs.Laws.{kind_of}
 use Rattle.narrow_plans.specs.Views.{EntryView, entry_range, entry_view, seen_entry, view_of}
 use Rattle.narrow_plans.specs.Laws.{SeeAlike}

@@ -12,11 +12,11 @@ use Rattle.event_words.specs.Registers.{Registers, bits_of, has_bit}
 use Rattle.event_words.specs.Guards.{reg}
 use Rattle.event_words.specs.Word.{kind_code}
 use Rattle.event_words.specs.Domains.{owner_of, is_associated, domain_grants}
-use Rattle.event_words.specs.Entries.{is_byte_of}
+use Rattle.event_words.specs.Entries.{is_byte_of, is_between}
 use Rattle.event_words.specs.Decisions.{is_entry_of, entry_grants}
 use Rattle.event_words.proofs.Ranges.{range_more}
 use Rattle.entry_ranges.specs.declared.ByteRange.{ByteRange}
-use Rattle.entry_ranges.specs.Ranges.{HoldsBytes, is_between}
+use Rattle.entry_ranges.specs.Ranges.{HoldsBytes}
 use Rattle.mdcfg_formats.proofs.Runs.{IsStart, IsRun, run_none}
 use Rattle.narrow_plans.specs.Views.{EntryView, entry_range, entry_view, seen_entry, view_of}
 use Rattle.narrow_plans.specs.Seen.{seen_below}

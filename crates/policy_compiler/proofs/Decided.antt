@@ -4,6 +4,7 @@ use Rattle.std.specs.List.{range_with_len, list_any}
 use Rattle.std.specs.Option.{option_or}
 use Rattle.std.proofs.lemmas.Bool.{ltb-true}
 use Rattle.std.proofs.lemmas.Bool.Decides.{nat_tests}
+use Rattle.std.proofs.Math.Bool.{and-false, or-false}
 use Rattle.event_words.specs.declared.access.Access.{Access}
 use Rattle.event_words.specs.declared.shape.Shape.{Shape}
 use Rattle.event_words.specs.declared.reply.Decision.TheVariants.{Allowed}
@@ -13,13 +14,14 @@ use Rattle.event_words.specs.Valid.{IsValidAccess}
 use Rattle.event_words.specs.Domains.{owner_of, is_known, is_associated}
 use Rattle.event_words.specs.Entries.{covers}
 use Rattle.event_words.specs.Decisions.{prio_count, is_entry_of, owned_by, entry_grants, is_touching, is_covering, entries, first_touching, covering, decision, decide_by_hit, by_covering, illegal, violation}
+use Rattle.event_words.proofs.Ranges.{find_none, none_any}
 use Rattle.policy_compiler.specs.declared.policy.Rule.{Rule}
 use Rattle.policy_compiler.specs.declared.read.rules.RuleKind.TheVariants.{Guards, Grants}
 use Rattle.policy_compiler.specs.Policies.{DomainOf, PolicyOf, IsPolicy}
 use Rattle.policy_compiler.specs.Images.{hardware_of, hardware, entry_count}
 use Rattle.policy_compiler.specs.Laws.{kind_of}
 use Rattle.policy_compiler.specs.Decides.{rule_touches, rule_covers, allows, first_guard, any_grant, illegal_kind, guard_kind, grants_kind, kind_by, policy_decision}
-use Rattle.policy_compiler.proofs.Finds.{find_range, find_none, any_range, any_none, any_filter, some_filter, is_some_list}
+use Rattle.policy_compiler.proofs.Finds.{find_range, any_range, any_filter, some_filter, is_some_list}
 use Rattle.policy_compiler.proofs.Fits.{domains_have_rules, count_append}
 use Rattle.policy_compiler.proofs.Held.{Holds, holds_split}
 use Rattle.policy_compiler.proofs.RulesAt.{Related, related_or, granting}
@@ -67,22 +69,14 @@ before_grants r a j h = let t : ltb j (prio_count r) ≡ true = search (nat_test
 after_guards : (r : Registers) (a : Access) (j : ℕ) → prio_count r ≤ j → is_touching r a j ≡ false
 after_guards r a j h = let t : ltb j (prio_count r) ≡ false = search (nat_tests, arith) in rw t refl
 
-and_none : (b : Bool) → (b && false) ≡ false
-and_none true = refl
-and_none false = refl
-
 of_nobody : (r : Registers) (a : Access) (j : ℕ) → owner_of r j ≡ None → is_covering r a j ≡ false
 of_nobody r a j e =
     let o : is_entry_of r a.rrid j ≡ false = ap (owned_by (is_associated r a.rrid)) e in
-    ap (λ b. not (ltb j (prio_count r)) && (b && covers r j a)) o ∙ and_none (not (ltb j (prio_count r)))
+    ap (λ b. not (ltb j (prio_count r)) && (b && covers r j a)) o ∙ and-false (not (ltb j (prio_count r)))
 
 or_none : (o : Option Rule) → option_or o None ≡ o
 or_none None = refl
 or_none (Some u) = refl
-
-or_false : (b : Bool) → (b || false) ≡ b
-or_false true = refl
-or_false false = refl
 
 find_all : (r : Registers) (a : Access) (g rest : ℕ) (x : Option Rule) → g ≡ prio_count r → Related r a (find (is_touching r a) (range_with_len 0 g)) x → Related r a (find (is_touching r a) (range_with_len 0 (g + rest))) x
 find_all r a g rest x e h =
@@ -94,14 +88,14 @@ find_all r a g rest x e h =
 any_all : (p : ℕ → Bool) (g c rest : ℕ) (x : Bool) → ((j : ℕ) → j < g → p j ≡ false) → list_any p (range_with_len g c) ≡ x → ((j : ℕ) → g + c ≤ j → p j ≡ false) → list_any p (range_with_len 0 (g + (c + rest))) ≡ x
 any_all p g c rest x low e high =
     let zero_g : 0 + g ≡ g = omega arith in
-    let first = any_none p 0 g (λ j l u. low j (omega arith)) in
-    let last = any_none p (g + c) rest (λ j l u. high j l) in
+    let first = none_any p 0 g (λ j l u. low j (omega arith)) in
+    let last = none_any p (g + c) rest (λ j l u. high j l) in
     any_range p 0 g (c + rest)
     ∙ (ap (λ b. b || list_any p (range_with_len (0 + g) (c + rest))) first
     ∙ (ap (λ k. list_any p (range_with_len k (c + rest))) zero_g
     ∙ (any_range p g c rest
     ∙ (ap (λ b. b || list_any p (range_with_len (g + c) rest)) e
-    ∙ (ap (λ b. x || b) last ∙ or_false x)))))
+    ∙ (ap (λ b. x || b) last ∙ or-false x)))))
 
 granting_none : (r : Registers) (a : Access) (j : ℕ) → is_covering r a j ≡ false → granting r a j ≡ false
 granting_none r a j e = rw e refl

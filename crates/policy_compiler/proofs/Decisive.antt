@@ -1,5 +1,5 @@
 -- Registers whose last written values are those of an image decide as its policy does.
-use Rattle.std.proofs.Common.{◌≡◌, ℕ, ◌^◌, ◌<◌, ◌≤◌, ◌⊎◌, inl, inr, Bool, true, false, ◌==◌, ltb, List, [], ◌∷◌, ◌++◌, Option, Some, None, cond, arith, refl, sym, ap, ◌∙◌, subst}
+use Rattle.std.proofs.Common.{◌≡◌, ℕ, ◌^◌, ◌<◌, ◌⊎◌, inl, inr, false, ◌==◌, List, [], ◌∷◌, ◌++◌, Option, Some, None, cond, arith, refl, sym, ap, ◌∙◌, subst}
 use Rattle.std.specs.List.{AllByRecursion}
 use Rattle.std.proofs.lemmas.Bool.Decides.{nat_tests}
 use Rattle.event_words.specs.declared.shape.Shape.{Shape}
@@ -12,7 +12,7 @@ use Rattle.policy_compiler.specs.declared.image.RegPair.{RegPair}
 use Rattle.policy_compiler.specs.Policies.{PolicyOf, IsPolicy}
 use Rattle.policy_compiler.specs.declared.read.rules.RuleKind.TheVariants.{Guards, Grants}
 use Rattle.policy_compiler.specs.Images.{HardwareOf, pair, hardware, hardware_of, writes_of, image_of}
-use Rattle.policy_compiler.specs.Needs.{need_domains, need_entries, need_refusal}
+use Rattle.policy_compiler.specs.Needs.{need_refusal}
 use Rattle.policy_compiler.specs.Laws.{kind_of}
 use Rattle.policy_compiler.specs.Decides.{policy_decision}
 use Rattle.policy_compiler.proofs.Fits.{count_append}
@@ -20,29 +20,15 @@ use Rattle.policy_compiler.proofs.Plain.{ArePlain}
 use Rattle.policy_compiler.proofs.Compiled.{HasRoom, room_of, table_writes, plain_tables, writes_split, after_is}
 use Rattle.policy_compiler.proofs.Alike.{guards_of_policy, decides_alike}
 use Rattle.policy_compiler.proofs.Standing.{value_from, value_of, value_same, value_other, Stands, IsRewrite, AreNext, stands_written}
+use Rattle.policy_compiler.proofs.Within.{none_needed}
 
 -- ---- a policy that compiles has room
 
 refused : (o : Option CompileError) (e : CompileError) → o ≡ Some e → o ≡ None → ⊥
 refused o e p q = let n : None ≡ Some e = sym q ∙ p in cc
 
-pub fits : (p : PolicyOf) → need_refusal p ≡ None → (need_domains p ≤ p.shape.domains) × (need_entries p ≤ p.shape.entries)
-unfolding need_refusal
-fits p h =
-    let domains : ltb p.shape.domains (need_domains p) ≡ false = by (ltb p.shape.domains (need_domains p)) _ _ h in
-    let entries : ltb p.shape.entries (need_entries p) ≡ false = by (ltb p.shape.entries (need_entries p)) _ None (inner (ltb p.shape.domains (need_domains p)) _ _ domains h) in
-    (grind (arith, nat_tests), grind (arith, nat_tests))
-  where
-    by : (b : Bool) (e : CompileError) (o : Option CompileError) → cond b (Some e) o ≡ None → b ≡ false
-    by true e o h = absurd (let n : None ≡ Some e = sym h in cc)
-    by false e o h = refl
-
-    inner : (b : Bool) (e : CompileError) (o : Option CompileError) → b ≡ false → cond b (Some e) o ≡ None → o ≡ None
-    inner true e o f h = absurd (let n : None ≡ Some e = sym h in cc)
-    inner false e o f h = h
-
 pub room : (p : PolicyOf) → IsPolicy p → need_refusal p ≡ None → HasRoom p.shape (hardware p.domains)
-room p good h = let f = fits p h in room_of p good f.0 f.1
+room p good h = let f = none_needed p h in room_of p good f.0 f.1
 
 -- ---- the writes of an image
 

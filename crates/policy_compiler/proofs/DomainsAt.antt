@@ -3,6 +3,8 @@ use Rattle.std.proofs.Common.{◌≡◌, ℕ, ◌+◌, ◌<◌, ◌≤◌, Bool,
 use Rattle.std.specs.List.{range_with_len, list_any, AllByRecursion}
 use Rattle.std.specs.Option.{option_or}
 use Rattle.std.proofs.lemmas.Bool.Decides.{nat_tests}
+use Rattle.std.proofs.Math.Bool.{and-false}
+use Rattle.std.proofs.lemmas.List.{nil_from_length}
 use Rattle.event_words.specs.declared.access.Access.{Access}
 use Rattle.event_words.specs.Registers.{Registers, has_bit}
 use Rattle.event_words.specs.Decisions.{prio_count, is_touching, is_covering}
@@ -15,10 +17,6 @@ use Rattle.policy_compiler.specs.Decides.{rule_touches, rule_covers, allows, is_
 use Rattle.policy_compiler.proofs.Finds.{find_range, any_range}
 use Rattle.policy_compiler.proofs.Held.{Holds, run_of}
 use Rattle.policy_compiler.proofs.RulesAt.{Related, related_or, when, find_rules, granting, cover_rules}
-
-nil_of : (us : List Rule) → length us ≡ 0 → us ≡ []
-nil_of [] h = refl
-nil_of (u ∷ us) h = absurd (omega arith)
 
 abbrev hardware_with : ℕ → List Rule → HardwareOf
 hardware_with members us = record { members = members; entries = entries_of us }
@@ -46,7 +44,7 @@ find_domain : (r : Registers) (a : Access) (m i : ℕ) (members : ℕ) (us : Lis
 find_domain r a m i members us rest o true e some known good held small ih =
     let z : length us ≡ 0 = grind (arith, nat_tests) in
     let x : cond (has_bit members a.rrid) (option_or (find (rule_touches a) us) o) o ≡ o =
-    guard_or (has_bit members a.rrid) (find (rule_touches a) us) o ∙ (ap (λ vs. option_or (when (has_bit members a.rrid) (find (rule_touches a) vs)) o) (nil_of us z) ∙ none_when (has_bit members a.rrid) o) in
+    guard_or (has_bit members a.rrid) (find (rule_touches a) us) o ∙ (ap (λ vs. option_or (when (has_bit members a.rrid) (find (rule_touches a) vs)) o) (nil_from_length us z) ∙ none_when (has_bit members a.rrid) o) in
     subst (Related r a (find (is_touching r a) (range_with_len i (entry_count rest)))) (sym x) (ih m i held small)
 find_domain r a m i members us rest o false e some known good held small ih =
     let run = run_of r m i (hardware_with members us) a known held.0 in
@@ -73,12 +71,8 @@ pub record CoversRest (r : Registers) (a : Access) (i n : ℕ) (covered allowed 
 abbrev CoversAfter : Registers → Access → List HardwareOf → Bool → Bool → Type 0
 CoversAfter r a rest x y = (m i : ℕ) → Holds r m i rest → prio_count r ≤ i → CoversRest r a i (entry_count rest) x y
 
-and_none : (b : Bool) → (b && false) ≡ false
-and_none true = refl
-and_none false = refl
-
 any_nil : (b : Bool) (q : Rule → Bool) (us : List Rule) → length us ≡ 0 → (b && list_any q us) ≡ false
-any_nil b q us z = ap (λ vs. b && list_any q vs) (nil_of us z) ∙ and_none b
+any_nil b q us z = ap (λ vs. b && list_any q vs) (nil_from_length us z) ∙ and-false b
 
 cover_domain : (r : Registers) (a : Access) (m i : ℕ) (members : ℕ) (us : List Rule) (rest : List HardwareOf) (x y : Bool) (e : Bool) → (length us == 0) ≡ e → 1 ≤ a.len → a.rrid < r.shape.rrids → AreRules us
     → Holds r m i (in_front e members us rest) → prio_count r ≤ i → CoversAfter r a rest x y

@@ -1,12 +1,11 @@
 -- The first write of an image, and the last.
-use Rattle.std.proofs.Common.{◌≡◌, ℕ, ◌+◌, ◌-◌, ◌*◌, ◌/◌, ◌%◌, ◌^◌, ◌<◌, ◌≤◌, Bool, true, false, ◌&&◌, ◌==◌, ltb, List, Some, bit_and, bit_or, get_or, set, arith, refl, ap, ◌∙◌}
+use Rattle.std.proofs.Common.{◌≡◌, ℕ, ◌+◌, ◌-◌, ◌*◌, ◌/◌, ◌%◌, ◌^◌, ◌<◌, ◌≤◌, Bool, true, false, ◌&&◌, ◌==◌, ltb, Some, bit_and, bit_or, get_or, set, arith, refl, ap, ◌∙◌}
 use Rattle.std.specs.Prelude.{is_some}
 use Rattle.std.specs.Int.{bit_not, w32}
 use Rattle.std.specs.Int.Bits.{or_zero_l}
 use Rattle.std.proofs.Math.Nat.{mod-eq_of_lt}
 use Rattle.std.proofs.Math.ListN.{length-set}
 use Rattle.std.proofs.lemmas.Nat.{and_le_r, and_mask, or_mod, and_mod, pow_pos}
-use Rattle.std.proofs.lemmas.List.{get_or-set_other}
 use Rattle.std.proofs.lemmas.List.FromFn.{length-map-range_with_len, get_or-map-range_with_len}
 use Rattle.std.proofs.lemmas.Bool.Decides.{nat_tests}
 use Rattle.event_words.specs.declared.shape.Shape.{Shape}
@@ -16,7 +15,7 @@ use Rattle.event_words.specs.Guards.{guarded_bits, is_enabled, is_prient_prog}
 use Rattle.policy_compiler.specs.Policies.{IsPolicyShape}
 use Rattle.policy_compiler.specs.Images.{pair}
 use Rattle.policy_compiler.specs.Laws.{guarded_write}
-use Rattle.policy_compiler.proofs.Plain.{IsCalm}
+use Rattle.policy_compiler.proofs.Plain.{IsCalm, other}
 
 -- ---- at reset
 
@@ -73,9 +72,6 @@ reset_not_enabled h w good e =
 
 -- ---- the first write: the number of priority entries
 
-other : (ws : List ℕ) (i j v : ℕ) → (j ≡ i → ⊥) → get_or (set ws i v) j 0 ≡ get_or ws j 0
-other ws i j v ne = get_or-set_other ws i j v 0 ne
-
 pub calm_prio : (h : Shape) (r : Registers) (v : ℕ) → IsCalm h r → IsCalm h (set_word r 4 v)
 calm_prio h r v c = record {
   shape = c.shape;
@@ -104,16 +100,19 @@ merged_low k keep old new e f =
 pub prio_kept : (r : Registers) → is_prient_prog r ≡ true → guarded_bits r 4 ≡ 4294901760
 prio_kept r e = rw e refl
 
-pub prio_read : (h : Shape) (r : Registers) (g : ℕ) → IsPolicyShape h → IsCalm h r → g < 2 ^ 16 → bits_of 0 16 (prio_word r g) ≡ g
-prio_read h r g good c small =
-    let bits = reset_not_enabled h (word_at r 2) good c.hwcfg0 in
-    let k = prio_kept r bits.1 in
+-- The number of priority entries is the one that was written where its write isn't locked.
+pub prio_low : (r : Registers) (g : ℕ) → is_prient_prog r ≡ true → g < 2 ^ 16 → bits_of 0 16 (prio_word r g) ≡ g
+prio_low r g t small =
+    let k = prio_kept r t in
     let low : prio_word r g % 2 ^ 16 ≡ ruled_word (fields_of r.shape Hwcfg2) (word_at r 4) g % 2 ^ 16 =
     ap (λ x. merged x (word_at r 4) (ruled_word (fields_of r.shape Hwcfg2) (word_at r 4) g) % 2 ^ 16) k
     ∙ merged_low 16 4294901760 (word_at r 4) (ruled_word (fields_of r.shape Hwcfg2) (word_at r 4) g) refl refl in
     let new : ruled_word (fields_of r.shape Hwcfg2) (word_at r 4) g % 2 ^ 16 ≡ g = omega arith in
     let one : prio_word r g / 2 ^ 0 ≡ prio_word r g = omega arith in
     ap (λ x. x % 2 ^ 16) one ∙ (low ∙ new)
+
+pub prio_read : (h : Shape) (r : Registers) (g : ℕ) → IsPolicyShape h → IsCalm h r → g < 2 ^ 16 → bits_of 0 16 (prio_word r g) ≡ g
+prio_read h r g good c small = prio_low r g (reset_not_enabled h (word_at r 2) good c.hwcfg0).1 small
 
 -- ---- the last write: the enable bit
 

@@ -1,10 +1,10 @@
 -- The bytes of the entries that a rule is compiled to.
-use Rattle.std.proofs.Common.{◌≡◌, ℕ, zero, suc, ◌+◌, ◌-◌, ◌*◌, ◌^◌, ◌/◌, ◌%◌, ◌<◌, ◌≤◌, ◌==◌, ◌&&◌, ◌||◌, Bool, true, false, eqb, ltb, leb, cond, arith, refl, sym, ap, ◌∙◌, subst, ⊎_elim}
+use Rattle.std.proofs.Common.{◌≡◌, ℕ, zero, suc, ◌+◌, ◌-◌, ◌*◌, ◌^◌, ◌/◌, ◌%◌, ◌<◌, ◌≤◌, ◌==◌, ◌&&◌, ◌||◌, Bool, true, false, eqb, leb, cond, arith, refl, sym, ap, ◌∙◌, subst, ⊎_elim}
 use Rattle.std.specs.Int.{bit_at, trailing_ones, w64, is_power_of_two}
 use Rattle.std.specs.Int.RustNames.{count_ones}
-use Rattle.std.proofs.Math.Nat.{add-mul, one-mul, mul_assoc}
+use Rattle.std.proofs.Math.Nat.{mul_assoc}
 use Rattle.std.proofs.Math.Pow.{pow_mono}
-use Rattle.std.proofs.lemmas.Nat.{pow_pos, pow-add, div-add-mod', mod_below, le-div, div_below, zero_from_ones, ones_le_self, div-mul-add}
+use Rattle.std.proofs.lemmas.Nat.{pow_pos, pow-add, div-add-mod', zero_from_ones, ones_le_self, div-mul-add}
 use Rattle.std.proofs.lemmas.Nat.Bits.{bit_at-trailing_ones, bit_at_above, bit_at_cat_low, bit_at_ones}
 use Rattle.std.proofs.lemmas.Bool.{cases_lt}
 use Rattle.std.proofs.lemmas.Bool.Decides.{nat_tests}
@@ -14,13 +14,12 @@ use Rattle.event_words.specs.declared.address_mode.AddressMode.TheVariants.{Off,
 use Rattle.event_words.specs.declared.register.Register.TheVariants.{EntryCfg}
 use Rattle.event_words.specs.Registers.{Registers, bits_of}
 use Rattle.event_words.specs.Guards.{reg}
-use Rattle.event_words.specs.Entries.{word_address, mode_at, mode_of, bottom_of, is_byte_of, is_byte_by}
+use Rattle.event_words.specs.Entries.{word_address, mode_at, mode_of, bottom_of, is_byte_of, is_byte_by, is_between}
 use Rattle.event_words.proofs.Blocks.{block_bytes}
 use Rattle.register_fields.specs.Rights.{rights_bits}
 use Rattle.policy_compiler.specs.declared.policy.Rule.{Rule}
 use Rattle.policy_compiler.specs.Policies.{IsRule, is_single}
 use Rattle.policy_compiler.specs.Images.{single_entry}
-use Rattle.policy_compiler.specs.Decides.{is_between}
 
 -- ---- modes
 

@@ -1,42 +1,15 @@
 -- Searches over runs of numbers.
-use Rattle.std.proofs.Common.{◌≡◌, ℕ, zero, suc, ◌+◌, ◌<◌, ◌≤◌, Bool, true, false, ◌&&◌, ◌||◌, List, [], ◌∷◌, ◌++◌, None, find, filter, arith, refl, ap, ◌∙◌}
+use Rattle.std.proofs.Common.{◌≡◌, ℕ, zero, suc, ◌+◌, ◌≤◌, Bool, true, false, ◌&&◌, ◌||◌, List, [], ◌∷◌, find, filter, arith, refl, ap, ◌∙◌}
 use Rattle.std.specs.List.{range_with_len, list_any, list_all}
 use Rattle.std.specs.Option.{option_or}
 use Rattle.std.proofs.lemmas.List.Folds.{find-append, list_any-append}
-
-pub range_append : (i n m : ℕ) → range_with_len i (n + m) ≡ range_with_len i n ++ range_with_len (i + n) m
-range_append i zero m =
-    let e : zero + m ≡ m = omega arith in
-    let f : i + zero ≡ i = omega arith in
-    rw (e, f) refl
-range_append i (suc n) m =
-    let e : suc n + m ≡ suc (n + m) = omega arith in
-    let f : (i + 1) + n ≡ i + suc n = omega arith in
-    ap (range_with_len i) e ∙ ap (λ xs. i ∷ xs) (range_append (i + 1) n m ∙ ap (λ k. range_with_len (i + 1) n ++ range_with_len k m) f)
+use Rattle.event_words.proofs.Ranges.{range_split}
 
 pub find_range : (p : ℕ → Bool) (i n m : ℕ) → find p (range_with_len i (n + m)) ≡ option_or (find p (range_with_len i n)) (find p (range_with_len (i + n) m))
-find_range p i n m = ap (find p) (range_append i n m) ∙ find-append p (range_with_len i n) (range_with_len (i + n) m)
+find_range p i n m = ap (find p) (range_split i n m) ∙ find-append p (range_with_len i n) (range_with_len (i + n) m)
 
 pub any_range : (p : ℕ → Bool) (i n m : ℕ) → list_any p (range_with_len i (n + m)) ≡ (list_any p (range_with_len i n) || list_any p (range_with_len (i + n) m))
-any_range p i n m = ap (list_any p) (range_append i n m) ∙ list_any-append p (range_with_len i n) (range_with_len (i + n) m)
-
--- a test that fails on a run finds nothing there
-pub find_none : (p : ℕ → Bool) (i n : ℕ) → ((j : ℕ) → i ≤ j → j < i + n → p j ≡ false) → find p (range_with_len i n) ≡ None
-find_none p i zero h = refl
-find_none p i (suc n) h = rw (h i (omega arith) (omega arith)) (find_none p (i + 1) n (λ j l u. h j (omega arith) (omega arith)))
-
-pub any_none : (p : ℕ → Bool) (i n : ℕ) → ((j : ℕ) → i ≤ j → j < i + n → p j ≡ false) → list_any p (range_with_len i n) ≡ false
-any_none p i zero h = refl
-any_none p i (suc n) h = rw (h i (omega arith) (omega arith)) (any_none p (i + 1) n (λ j l u. h j (omega arith) (omega arith)))
-
--- two tests that agree agree on a list
-pub any_alike : (p q : ℕ → Bool) → ((x : ℕ) → p x ≡ q x) → (xs : List ℕ) → list_any p xs ≡ list_any q xs
-any_alike p q e [] = refl
-any_alike p q e (x ∷ xs) = rw (e x, any_alike p q e xs) refl
-
-pub all_alike : (p q : ℕ → Bool) → ((x : ℕ) → p x ≡ q x) → (xs : List ℕ) → list_all p xs ≡ list_all q xs
-all_alike p q e [] = refl
-all_alike p q e (x ∷ xs) = rw (e x, all_alike p q e xs) refl
+any_range p i n m = ap (list_any p) (range_split i n m) ∙ list_any-append p (range_with_len i n) (range_with_len (i + n) m)
 
 abbrev pub never : ℕ → Bool
 never x = false

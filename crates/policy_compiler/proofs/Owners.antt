@@ -7,9 +7,9 @@ use Rattle.event_words.specs.declared.access.Kind.{Kind}
 use Rattle.event_words.specs.declared.access.Kind.TheVariants.{Read, Write, Fetch}
 use Rattle.event_words.specs.Registers.{Registers, word_at, has_bit, has_pair_bit}
 use Rattle.event_words.specs.Domains.{bound_of, is_bounded_by, owner_of, has_first_permission, has_second_permission, is_in_table, is_associated, domain_grants, by_kind}
+use Rattle.event_words.proofs.Ranges.{find_none}
 use Rattle.policy_compiler.specs.declared.hardware.EntryWords.{EntryWords}
 use Rattle.policy_compiler.specs.Images.{HardwareOf, entry_count, enable_bits, permissions}
-use Rattle.policy_compiler.proofs.Finds.{find_none}
 use Rattle.policy_compiler.proofs.Puts.{end_at, members_at, all_entries, ReadsEntries}
 use Rattle.policy_compiler.proofs.SrcmdRows.{ReadsRow}
 use Rattle.policy_compiler.proofs.PairWords.{has_pair_bit-words}

@@ -60,7 +60,8 @@ set_even ws i j v old new = ⊎_elim
     (λ (ne : j ≡ i → ⊥). rw (get_or-set_other ws i j v 0 ne) old)
     (cases_eq j i)
 
-other : (ws : List ℕ) (i j v : ℕ) → (j ≡ i → ⊥) → get_or (set ws i v) j 0 ≡ get_or ws j 0
+-- a word beside the one that is set
+pub other : (ws : List ℕ) (i j v : ℕ) → (j ≡ i → ⊥) → get_or (set ws i v) j 0 ≡ get_or ws j 0
 other ws i j v ne = get_or-set_other ws i j v 0 ne
 
 calm_set : (h : Shape) (r : Registers) (i v : ℕ) → 20 ≤ i → (h.srcmd ≡ 0 → (s : ℕ) → s < 64 → i ≡ 1024 + 8 * s → v % 2 ≡ 0) → IsCalm h r → IsCalm h (set_word r i v)

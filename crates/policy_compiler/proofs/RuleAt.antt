@@ -7,14 +7,15 @@ use Rattle.event_words.specs.declared.register.Register.TheVariants.{EntryCfg}
 use Rattle.event_words.specs.Registers.{Registers, has_bit}
 use Rattle.event_words.specs.Guards.{reg}
 use Rattle.event_words.specs.Word.{kind_code}
-use Rattle.event_words.specs.Entries.{touches, covers, is_byte_of, bytes_of}
+use Rattle.event_words.specs.Entries.{touches, covers, is_byte_of, bytes_of, is_between}
+use Rattle.event_words.proofs.ListItems.{any_alike, all_alike}
 use Rattle.register_fields.specs.Rights.{rights_bits}
 use Rattle.policy_compiler.specs.declared.policy.Rule.{Rule}
 use Rattle.policy_compiler.specs.Policies.{IsRule, is_single}
 use Rattle.policy_compiler.specs.Images.{single_entry, two_entries}
-use Rattle.policy_compiler.specs.Decides.{is_between, rule_touches, rule_covers, rule_grants}
+use Rattle.policy_compiler.specs.Decides.{rule_touches, rule_covers, rule_grants}
 use Rattle.policy_compiler.proofs.EntryBytes.{off_bytes, tor_bytes, single_bytes}
-use Rattle.policy_compiler.proofs.Finds.{any_alike, all_alike, any_never, all_never, never}
+use Rattle.policy_compiler.proofs.Finds.{any_never, all_never, never}
 use Rattle.policy_compiler.proofs.Held.{HoldsEntries}
 
 -- entry j is the rule: the same bytes, and the same right

@@ -3,6 +3,8 @@ use Rattle.std.proofs.Common.{◌≡◌, ℕ, ◌+◌, ◌<◌, ◌≤◌, Bool,
 use Rattle.std.specs.List.{range_with_len, list_any}
 use Rattle.std.specs.Option.{option_or}
 use Rattle.std.proofs.lemmas.Bool.Decides.{nat_tests}
+use Rattle.std.proofs.Math.Bool.{or-false, and-false}
+use Rattle.std.proofs.lemmas.Bool.{and_right}
 use Rattle.event_words.specs.declared.access.Access.{Access}
 use Rattle.event_words.specs.Registers.{Registers}
 use Rattle.event_words.specs.Entries.{touches, covers}
@@ -63,10 +65,6 @@ covering_is r a j b h e =
     let t : ltb j (prio_count r) ≡ false = search (nat_tests, arith) in
     rw (t, e) refl
 
-and_false : (b c : Bool) → c ≡ false → (b && c) ≡ false
-and_false true c e = e
-and_false false c e = refl
-
 found_one : (r : Registers) (a : Access) (j : ℕ) (u : Rule) (b t p : Bool) → p ≡ (b && t) → (b ≡ true → IsMatch r a j u) → Related r a (cond p (Some j) None) (when b (cond t (Some u) None))
 found_one r a j u true true p e m = rw e (m refl)
 found_one r a j u true false p e m = rw e tt
@@ -88,7 +86,7 @@ find_single r a b i u h s held run small =
 find_pair : (r : Registers) (a : Access) (b : Bool) (i : ℕ) (u : Rule) → 1 ≤ a.len → IsRule u → Finds r a b i u (two_entries u)
 find_pair r a b i u some h held run small =
     let e = pair_held r a i u some h held in
-    let first : is_touching r a i ≡ false = touching_is r a i b (omega arith) (run.own i (omega arith) (omega arith)) ∙ and_false b (touches r i a) e.0.touches in
+    let first : is_touching r a i ≡ false = touching_is r a i b (omega arith) (run.own i (omega arith) (omega arith)) ∙ and_right b (touches r i a) e.0.touches in
     let second = touching_is r a (i + 1) b (omega arith) (run.own (i + 1) (omega arith) (omega arith)) ∙ ap (λ t. b && t) e.1.touches in
     rw first (found_one r a (i + 1) u b (rule_touches a u) (is_touching r a (i + 1)) second (match_of r a b i (i + 2) (i + 1) u run (omega arith) (omega arith) e.1))
 
@@ -133,17 +131,13 @@ granting_is : (r : Registers) (a : Access) (j : ℕ) (u : Rule) (b : Bool) → i
 granting_is r a j u true e m = rw (e, (m refl).grants) refl
 granting_is r a j u false e m = rw e refl
 
-or_false : (b : Bool) → (b || false) ≡ b
-or_false true = refl
-or_false false = refl
-
 abbrev CoversBy : Registers → Access → Bool → ℕ → Rule → List EntryWords → Type 0
 CoversBy r a b i u es = HoldsEntries r i es → IsRun r a b i (i + length es) → prio_count r ≤ i → Covers r a b i (length es) (u ∷ [])
 
 one_covers : (r : Registers) (a : Access) (b : Bool) (j : ℕ) (u : Rule) → is_covering r a j ≡ (b && rule_covers a u) → granting r a j ≡ (b && allows a u) → Covers r a b j 1 (u ∷ [])
 one_covers r a b j u e f = record {
-  covered = or_false (is_covering r a j) ∙ (e ∙ ap (λ t. b && t) (sym (or_false (rule_covers a u))));
-  allowed = or_false (granting r a j) ∙ (f ∙ ap (λ t. b && t) (sym (or_false (allows a u))));
+  covered = or-false (is_covering r a j) ∙ (e ∙ ap (λ t. b && t) (sym (or-false (rule_covers a u))));
+  allowed = or-false (granting r a j) ∙ (f ∙ ap (λ t. b && t) (sym (or-false (allows a u))));
 }
 
 cover_single : (r : Registers) (a : Access) (b : Bool) (i : ℕ) (u : Rule) → IsRule u → is_single u.from u.size ≡ true → CoversBy r a b i u (single_entry u ∷ [])
@@ -155,7 +149,7 @@ cover_single r a b i u h s held run past =
 cover_pair : (r : Registers) (a : Access) (b : Bool) (i : ℕ) (u : Rule) → 1 ≤ a.len → IsRule u → CoversBy r a b i u (two_entries u)
 cover_pair r a b i u some h held run past =
     let e = pair_held r a i u some h held in
-    let first : is_covering r a i ≡ false = covering_is r a i b past (run.own i (omega arith) (omega arith)) ∙ and_false b (covers r i a) e.0.covers in
+    let first : is_covering r a i ≡ false = covering_is r a i b past (run.own i (omega arith) (omega arith)) ∙ and_right b (covers r i a) e.0.covers in
     let c = covering_is r a (i + 1) b (omega arith) (run.own (i + 1) (omega arith) (omega arith)) ∙ ap (λ t. b && t) e.1.covers in
     let rest = one_covers r a b (i + 1) u c (granting_is r a (i + 1) u b c (match_of r a b i (i + 2) (i + 1) u run (omega arith) (omega arith) e.1)) in
     record { covered = rw first rest.covered; allowed = rw first rest.allowed }
@@ -167,19 +161,15 @@ and_or : (b x y : Bool) → (b && (x || y)) ≡ ((b && x) || (b && y))
 and_or true x y = refl
 and_or false x y = refl
 
-and_none : (b : Bool) → (b && false) ≡ false
-and_none true = refl
-and_none false = refl
-
 any_step : (p : ℕ → Bool) (q : Rule → Bool) (b : Bool) (i n m : ℕ) (u : Rule) (us : List Rule) → list_any p (range_with_len i n) ≡ (b && list_any q (u ∷ [])) → list_any p (range_with_len (i + n) m) ≡ (b && list_any q us)
     → list_any p (range_with_len i (n + m)) ≡ (b && list_any q (u ∷ us))
 any_step p q b i n m u us e f =
-    any_range p i n m ∙ (ap (λ x. x || list_any p (range_with_len (i + n) m)) (e ∙ ap (λ x. b && x) (or_false (q u))) ∙ (ap (λ x. (b && q u) || x) f ∙ sym (and_or b (q u) (list_any q us))))
+    any_range p i n m ∙ (ap (λ x. x || list_any p (range_with_len (i + n) m)) (e ∙ ap (λ x. b && x) (or-false (q u))) ∙ (ap (λ x. (b && q u) || x) f ∙ sym (and_or b (q u) (list_any q us))))
 
 -- Some entry of rules covers the access where some rule does, and the same with the right.
 pub cover_rules : (r : Registers) (a : Access) (b : Bool) (i : ℕ) (us : List Rule) → 1 ≤ a.len → AreRules us → HoldsEntries r i (entries_of us) → IsRun r a b i (i + length (entries_of us)) → prio_count r ≤ i
     → Covers r a b i (length (entries_of us)) us
-cover_rules r a b i [] some good held run past = record { covered = sym (and_none b); allowed = sym (and_none b) }
+cover_rules r a b i [] some good held run past = record { covered = sym (and-false b); allowed = sym (and-false b) }
 cover_rules r a b i (u ∷ us) some good held run past =
     let l : length (rule_entries u ++ entries_of us) ≡ length (rule_entries u) + length (entries_of us) = length-append (rule_entries u) (entries_of us) in
     let parts = entries_split r i (rule_entries u) (entries_of us) held in

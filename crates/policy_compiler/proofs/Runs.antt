@@ -1,47 +1,11 @@
--- A run of bytes between two ends, by its first and last byte.
-use Rattle.std.proofs.Common.{◌≡◌, ℕ, suc, zero, ◌+◌, ◌-◌, ◌<◌, ◌≤◌, Bool, true, false, ltb, leb, ◌&&◌, arith, refl, ◌∙◌}
-use Rattle.std.specs.List.{range_with_len, list_any, list_all}
+-- Which accesses touch a rule's bytes and lie in them, by where they begin and end.
+use Rattle.std.proofs.Common.{◌≡◌, ◌+◌, ◌-◌, ◌<◌, ◌≤◌, true, false, ltb, leb, arith, ◌∙◌}
 use Rattle.std.proofs.lemmas.Bool.Decides.{nat_tests}
+use Rattle.std.proofs.Math.Bool.{and-true}
 use Rattle.event_words.specs.declared.access.Access.{Access}
+use Rattle.event_words.proofs.ByteRuns.{all_of_some, any_of_some, any_of_none}
 use Rattle.policy_compiler.specs.declared.policy.Rule.{Rule}
-use Rattle.policy_compiler.specs.Decides.{is_between, rule_touches, rule_covers}
-
-all_between : (from to a n : ℕ) → list_all (is_between from to) (range_with_len a (suc n)) ≡ (leb from a && leb (a + suc n) to)
-all_between from to a zero = grind (arith, nat_tests)
-all_between from to a (suc n) =
-    let rest = all_between from to (a + 1) n in
-    grind (arith, nat_tests)
-
-any_between : (from to a n : ℕ) → from < to → list_any (is_between from to) (range_with_len a (suc n)) ≡ (ltb from (a + suc n) && ltb a to)
-any_between from to a zero h = grind (arith, nat_tests)
-any_between from to a (suc n) h =
-    let rest = any_between from to (a + 1) n h in
-    grind (arith, nat_tests)
-
-none_between : (from a n : ℕ) → list_any (is_between from from) (range_with_len a n) ≡ false
-none_between from a zero = refl
-none_between from a (suc n) =
-    let rest = none_between from (a + 1) n in
-    grind (arith, nat_tests)
-
-and_true : (b : Bool) → (b && true) ≡ b
-and_true true = refl
-and_true false = refl
-
--- Each byte lies between the ends where the first and the last do.
-pub all_of_some : (from to a n : ℕ) → 1 ≤ n → list_all (is_between from to) (range_with_len a n) ≡ (leb from a && leb (a + n) to)
-all_of_some from to a zero h = absurd (omega arith)
-all_of_some from to a (suc n) h = all_between from to a n
-
--- Some byte does where the run begins below the upper end and ends above the lower one.
-pub any_of_some : (from to a n : ℕ) → from < to → 1 ≤ n → list_any (is_between from to) (range_with_len a n) ≡ (ltb from (a + n) && ltb a to)
-any_of_some from to a zero p h = absurd (omega arith)
-any_of_some from to a (suc n) p h = any_between from to a n p
-
-pub any_of_none : (from to a n : ℕ) → to ≡ from → list_any (is_between from to) (range_with_len a n) ≡ false
-any_of_none from to a n e = rw e (none_between from a n)
-
--- ---- an access beside a rule
+use Rattle.policy_compiler.specs.Decides.{rule_touches, rule_covers}
 
 pub touches_empty : (a : Access) (u : Rule) → u.size ≡ 0 → rule_touches a u ≡ false
 unfolding rule_touches
@@ -52,7 +16,7 @@ unfolding rule_touches
 touches_before a u h p q =
     let e = any_of_some u.from (u.from + u.size) a.addr a.len (omega arith) h in
     let t : ltb a.addr (u.from + u.size) ≡ true = search (nat_tests, arith) in
-    rw (t, and_true (ltb u.from (a.addr + a.len))) at e
+    rw (t, and-true (ltb u.from (a.addr + a.len))) at e
 
 pub touches_within : (a : Access) (u : Rule) → 1 ≤ a.len → 1 ≤ u.size → u.from ≤ a.addr → rule_touches a u ≡ ltb (a.addr - u.from) u.size
 unfolding rule_touches

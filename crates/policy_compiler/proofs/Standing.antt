@@ -1,24 +1,24 @@
 -- What the writes of images and of updates leave in the registers, whatever came between them: the table words
 -- are the last values that were written, and no lock is set.
-use Rattle.std.proofs.Common.{◌≡◌, ℕ, ◌+◌, ◌-◌, ◌*◌, ◌/◌, ◌%◌, ◌^◌, ◌<◌, ◌≤◌, ◌⊎◌, inl, inr, true, false, ◌==◌, ltb, cond, List, [], ◌∷◌, ◌++◌, length, append_assoc, Option, Some, None, get_or, set, bit_and, bit_or, min, max, arith, refl, sym, ap, ◌∙◌, subst, ⊎_elim}
+use Rattle.std.proofs.Common.{◌≡◌, ℕ, ◌+◌, ◌-◌, ◌*◌, ◌/◌, ◌%◌, ◌^◌, ◌<◌, ◌≤◌, ◌⊎◌, inl, inr, true, false, ◌==◌, ltb, cond, List, [], ◌∷◌, ◌++◌, length, append_assoc, Option, Some, None, bit_and, bit_or, min, max, arith, refl, sym, ap, ◌∙◌, subst, ⊎_elim}
 use Rattle.std.specs.Int.{bit_at, bit_not, w32}
 use Rattle.std.proofs.Math.ListN.{length-set}
 use Rattle.std.proofs.lemmas.Nat.Bits.{bit_at_and, bit_at_or, bit_at_not, bit_at-lt}
-use Rattle.std.proofs.lemmas.List.{get_or-set_same, get_or-set_other, get_or_past}
+use Rattle.std.proofs.lemmas.List.{get_or-set_same, get_or_past, append-nil}
 use Rattle.std.proofs.lemmas.Bool.{cases_eq, cases_lt, cond_both, cond-true, cond-false, eq-eqb, ne_eqb, eqb-true}
 use Rattle.std.proofs.lemmas.Bool.Decides.{nat_tests}
 use Rattle.std.proofs.lemmas.Nat.{mod_below, pow_pos, and_le_r}
 use Rattle.event_words.specs.declared.shape.Shape.{Shape}
 use Rattle.event_words.specs.declared.register.Register.{Register}
-use Rattle.event_words.specs.declared.register.Register.TheVariants.{Hwcfg0, Hwcfg2, Mdcfg, SrcmdEn, SrcmdEnh, SrcmdR, SrcmdRh, SrcmdW, SrcmdWh, SrcmdPerm, SrcmdPermh, EntryAddr, EntryAddrh, EntryCfg}
+use Rattle.event_words.specs.declared.register.Register.TheVariants.{Hwcfg0, Mdcfg, SrcmdEn, SrcmdEnh, SrcmdR, SrcmdRh, SrcmdW, SrcmdWh, SrcmdPerm, SrcmdPermh, EntryAddr, EntryAddrh, EntryCfg}
 use Rattle.event_words.specs.Registers.{Registers, word_at, bits_of, has_bit, named_at, srcmd_at, entry_at, if_had, has_register, fields_of, ruled_word, merged, set_word, reset_of, reset_word, index_count, at_reset}
 use Rattle.event_words.specs.Guards.{is_enabled, is_prient_prog}
 use Rattle.policy_compiler.specs.declared.image.RegPair.{RegPair}
 use Rattle.policy_compiler.specs.Policies.{IsPolicyShape}
 use Rattle.policy_compiler.specs.Images.{pair}
 use Rattle.policy_compiler.specs.Laws.{guarded_write, after_writes}
-use Rattle.policy_compiler.proofs.Plain.{IsUnlocked, IsPlain, unlocked, set_even}
-use Rattle.policy_compiler.proofs.Ends.{reset_read, calm_reset, reset_not_enabled, prio_word, prio_kept, merged_low, enable_word, enable_kept}
+use Rattle.policy_compiler.proofs.Plain.{IsUnlocked, IsPlain, unlocked, set_even, other}
+use Rattle.policy_compiler.proofs.Ends.{reset_read, calm_reset, reset_not_enabled, prio_word, enable_word, enable_kept, prio_low}
 
 -- ---- the last value that writes give an index
 
@@ -69,9 +69,6 @@ stands_same h ps r s shape len same c =
       tables = λ i l. same i (inr l) ∙ c.tables i l;
     }
 
-other : (ws : List ℕ) (i j v : ℕ) → (j ≡ i → ⊥) → get_or (set ws i v) j 0 ≡ get_or ws j 0
-other ws i j v ne = get_or-set_other ws i j v 0 ne
-
 -- a word below the locks, or of a table
 unlocked_set : (h : Shape) (r : Registers) (i v : ℕ) → (i < 16) ⊎ (20 ≤ i) → (h.srcmd ≡ 0 → (s : ℕ) → s < 64 → i ≡ 1024 + 8 * s → v % 2 ≡ 0) → IsUnlocked h r → IsUnlocked h (set_word r i v)
 unlocked_set h r i v out even c = record {
@@ -117,16 +114,6 @@ stands_other h ps r j v x above below c =
       prio = ap (bits_of 0 16) (other r.words j 4 x (λ e. absurd (omega arith))) ∙ (c.prio ∙ sym (value_other ps (pair j v) 4 (λ e. absurd (omega arith))));
       tables = λ i l. other r.words j i x (λ e. absurd (omega arith)) ∙ (c.tables i l ∙ sym (value_other ps (pair j v) i (λ e. absurd (omega arith))));
     }
-
-prio_low : (r : Registers) (g : ℕ) → is_prient_prog r ≡ true → g < 2 ^ 16 → bits_of 0 16 (prio_word r g) ≡ g
-prio_low r g t small =
-    let k = prio_kept r t in
-    let low : prio_word r g % 2 ^ 16 ≡ ruled_word (fields_of r.shape Hwcfg2) (word_at r 4) g % 2 ^ 16 =
-    ap (λ x. merged x (word_at r 4) (ruled_word (fields_of r.shape Hwcfg2) (word_at r 4) g) % 2 ^ 16) k
-    ∙ merged_low 16 4294901760 (word_at r 4) (ruled_word (fields_of r.shape Hwcfg2) (word_at r 4) g) refl refl in
-    let new : ruled_word (fields_of r.shape Hwcfg2) (word_at r 4) g % 2 ^ 16 ≡ g = omega arith in
-    let one : prio_word r g / 2 ^ 0 ≡ prio_word r g = omega arith in
-    ap (λ x. x % 2 ^ 16) one ∙ (low ∙ new)
 
 -- of the number of priority entries
 stands_prio : (h : Shape) (ps : List RegPair) (r : Registers) (v : ℕ) → v < 2 ^ 16 → Stands h ps r → Stands h (ps ++ pair 4 v ∷ []) (set_word r 4 (prio_word r v))
@@ -285,13 +272,9 @@ stands_reset h good =
       tables = λ i l. table_zero h i l;
     }
 
-append_none : (xs : List RegPair) → xs ++ [] ≡ xs
-append_none [] = refl
-append_none (x ∷ xs) = ap (λ ys. x ∷ ys) (append_none xs)
-
 -- The registers after writes from reset stand so.
 stands_after : (h : Shape) (ps ws : List RegPair) (r : Registers) → IsPolicyShape h → AreNext h ps ws → Stands h ps r → Stands h (ps ++ ws) (after_writes r ws)
-stands_after h ps [] r good next c = subst (λ xs. Stands h xs r) (sym (append_none ps)) c
+stands_after h ps [] r good next c = subst (λ xs. Stands h xs r) (sym (append-nil ps)) c
 stands_after h ps (w ∷ ws) r good next c =
     subst (λ xs. Stands h xs (after_writes (guarded_write r w) ws)) (append_assoc ps (w ∷ []) ws)
     (stands_after h (ps ++ w ∷ []) ws (guarded_write r w) good next.1 (stands_step h ps r w good next.0 c))

@@ -1,18 +1,14 @@
 -- What a policy decides about an access, by its rules in the order of the text.
-use Rattle.std.specs.Prelude.{ℕ, ◌+◌, ◌&&◌, ◌||◌, nat_le, nat_lt, Bool, false, not, if◌then◌else◌, List, [], ◌∷◌, Option, None, Some, find}
+use Rattle.std.specs.Prelude.{ℕ, ◌+◌, ◌&&◌, ◌||◌, nat_lt, Bool, false, not, if◌then◌else◌, List, [], ◌∷◌, Option, None, Some, find}
 use Rattle.std.specs.List.{list_any, list_all}
 use Rattle.std.specs.Option.{option_or}
 use Rattle.event_words.specs.declared.access.Access.{Access}
-use Rattle.event_words.specs.Entries.{bytes_of}
+use Rattle.event_words.specs.Entries.{bytes_of, is_between}
 use Rattle.event_words.specs.Registers.{has_bit}
 use Rattle.event_words.specs.Word.{kind_code}
 use Rattle.register_fields.specs.Rights.{rights_bits}
 use Rattle.policy_compiler.specs.declared.policy.Rule.{Rule}
 use Rattle.policy_compiler.specs.Policies.{DomainOf, PolicyOf}
-
--- Byte x lies from one end on and below the other.
-abbrev pub is_between : ℕ → ℕ → ℕ → Bool
-is_between from to x = nat_le from x && nat_lt x to
 
 -- Some byte of the access is the rule's, each byte is.
 unfoldable pub rule_touches : Access → Rule → Bool

@@ -1,5 +1,5 @@
 -- Keys of tables and values of the types that they must have. What is read, or the first fault.
-use Rattle.std.specs.Prelude.{ℕ, ◌+◌, ℤ, pos, negsuc, ◌&&◌, ◌||◌, nat_le, Bool, true, false, if◌then◌else◌, List, codes, Option, None, Some, Result, Ok, Err}
+use Rattle.std.specs.Prelude.{ℕ, ◌+◌, ℤ, pos, negsuc, ◌&&◌, ◌||◌, nat_le, Bool, true, false, if◌then◌else◌, List, codes, Option, None, Some, is_some, Result, Ok, Err}
 use Rattle.std.specs.Str.{bytes_eq}
 use Rattle.toml.specs.Data.{Data, Items, no_items, item, Members, no_members, member, as_integer, as_table}
 use Rattle.policy_compiler.specs.declared.path.Part.{Part}
@@ -58,17 +58,13 @@ unfoldable pub number_in : Path → ℕ → ℕ → Data → Result ℕ Fault
 number_in path low high d = typed path (as_integer d) >>= in_range path low high
 
 -- each element of an array is a table, or an integer
-abbrev pub is_some_of : {A : Type 0} → Option A → Bool
-is_some_of None = false
-is_some_of (Some x) = true
-
 abbrev pub are_tables : Items → Bool
 are_tables no_items = true
-are_tables (item x xs) = if is_some_of (as_table x) then are_tables xs else false
+are_tables (item x xs) = if is_some (as_table x) then are_tables xs else false
 
 abbrev pub are_integers : Items → Bool
 are_integers no_items = true
-are_integers (item x xs) = if is_some_of (as_integer x) then are_integers xs else false
+are_integers (item x xs) = if is_some (as_integer x) then are_integers xs else false
 
 abbrev pub item_count : Items → ℕ
 item_count no_items = 0

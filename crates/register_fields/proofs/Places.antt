@@ -1,3 +1,4 @@
+-- What is found at an index is the register that stands there.
 use Rattle.std.proofs.Common.{◌≡◌, ◌↔◌, ℕ, true, Option, Some, sym, subst}
 use Rattle.event_words.specs.declared.shape.Shape.{Shape}
 use Rattle.event_words.specs.declared.register.Register.{Register}

@@ -1,3 +1,4 @@
+-- The fields of the registers lie apart and within a word.
 use Rattle.std.proofs.Common.{ℕ, ◌^◌, ◌≤◌, [], ◌∷◌, arith}
 use Rattle.std.proofs.Math.Pow.{pow_mono}
 use Rattle.event_words.specs.declared.register.Rule.{Rule}

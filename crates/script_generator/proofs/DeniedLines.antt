@@ -1,7 +1,7 @@
 -- One line more.
 use Rattle.std.proofs.Common.{◌≡◌, ℕ, ◌+◌, ◌-◌, ◌<◌, ◌≤◌, ◌++◌, List, flat_map, append_assoc, append-nil, refl, sym, ap, ◌∙◌, arith}
 use Rattle.std.specs.List.{range_with_len}
-use Rattle.mdcfg_formats.proofs.Searches.{range_step}
+use Rattle.event_words.proofs.Ranges.{range_step}
 use Rattle.script_generator.specs.Summaries.{denied_line, denied_lines}
 
 pub line_more : (all out next : List ℕ) (code : ℕ) → code < 8 → next ≡ out ++ denied_line all code

@@ -6,7 +6,7 @@ use Rattle.std.proofs.lemmas.List.{map-append}
 use Rattle.event_words.specs.declared.section.Command.{Command}
 use Rattle.event_words.specs.declared.section.Command.TheVariants.{Submit, Judge}
 use Rattle.event_words.specs.Sections.{SectionOf}
-use Rattle.policy_compiler.proofs.Finds.{range_append}
+use Rattle.event_words.proofs.Ranges.{range_more}
 use Rattle.script_generator.specs.GeneratedScripts.{next_draw, draw, drawn_access, transaction, lane_after, generated_lane}
 
 pub draw_none : (x : ℕ) → draw x 0 ≡ x
@@ -23,9 +23,6 @@ unfolding draw
 draw_on x a zero = let e : a ≡ a + 0 = omega arith in ap (draw x) e
 draw_on x a (suc b) = let e : suc (a + b) ≡ a + suc b = omega arith in ap next_draw (draw_on x a b) ∙ ap (draw x) e
 
-range_more : (n : ℕ) → range_with_len 0 (n + 1) ≡ range_with_len 0 n ++ n ∷ []
-range_more n = let z : 0 + n ≡ n = omega arith in range_append 0 n 1 ∙ ap (λ m. range_with_len 0 n ++ m ∷ []) z
-
 pub more_commands : (x slot last : ℕ) (cs : List Command) → last ≡ draw x slot → cs ≡ flat_map (transaction x) (range_with_len 0 slot)
     → (cs ++ Submit 0 (drawn_access (next_draw last)) slot ∷ []) ++ Judge slot ∷ [] ≡ flat_map (transaction x) (range_with_len 0 (slot + 1))
 unfolding draw
@@ -33,7 +30,7 @@ more_commands x slot last cs d e =
     append_assoc cs _ _
     ∙ ap (λ n. cs ++ Submit 0 (drawn_access (next_draw n)) slot ∷ Judge slot ∷ []) d
     ∙ ap (λ l. l ++ transaction x slot) e
-    ∙ sym (ap (flat_map (transaction x)) (range_more slot) ∙ flat_map-append (transaction x) (range_with_len 0 slot) (slot ∷ []) ∙ ap (λ l. flat_map (transaction x) (range_with_len 0 slot) ++ l) (append-nil (transaction x slot)))
+    ∙ sym (ap (flat_map (transaction x)) (range_more 0 slot slot (omega arith)) ∙ flat_map-append (transaction x) (range_with_len 0 slot) (slot ∷ []) ∙ ap (λ l. flat_map (transaction x) (range_with_len 0 slot) ++ l) (append-nil (transaction x slot)))
 
 -- where all slots are taken
 pub whole_lane : (count x slot : ℕ) (cs : List Command) → cs ≡ flat_map (transaction x) (range_with_len 0 slot) → slot ≡ count → (let s : SectionOf = record { commands = cs; slots = count } in s ≡ lane_after count x)
@@ -45,4 +42,4 @@ unfolding generated_lane
 more_lanes number lane last ss s d e h =
     ap (λ l. l ++ s ∷ []) h
     ∙ ap (λ t. map (generated_lane number) (range_with_len 0 lane) ++ t ∷ []) (e ∙ ap (lane_after 4096) d)
-    ∙ sym (ap (map (generated_lane number)) (range_more lane) ∙ map-append (generated_lane number) (range_with_len 0 lane) (lane ∷ []))
+    ∙ sym (ap (map (generated_lane number)) (range_more 0 lane lane (omega arith)) ∙ map-append (generated_lane number) (range_with_len 0 lane) (lane ∷ []))

@@ -1,8 +1,8 @@
 -- The record of a lane of judged transactions: its verdicts are what the tables decide on its accesses.
-use Rattle.std.proofs.Common.{◌≡◌, ℕ, ◌+◌, ◌++◌, ◌&&◌, not, Bool, true, false, if◌then◌else◌, List, [], ◌∷◌, Option, Some, None, length, map, refl, sym, ap, ◌∙◌, subst, arith}
+use Rattle.std.proofs.Common.{◌≡◌, ℕ, ◌+◌, ◌++◌, ◌&&◌, not, Bool, true, false, if◌then◌else◌, List, [], ◌∷◌, Option, Some, None, length, map, refl, sym, ap, ◌∙◌, subst}
 use Rattle.std.specs.Prelude.{slice_set, nat_lt}
 use Rattle.std.specs.List.{AllByRecursion, cons_option}
-use Rattle.std.proofs.lemmas.List.{length-set}
+use Rattle.std.proofs.lemmas.List.{length-set, length_push}
 use Rattle.event_words.specs.declared.access.Access.{Access}
 use Rattle.event_words.specs.declared.event.Event.TheVariants as events
 use Rattle.event_words.specs.declared.reply.Reply.{Reply}
@@ -21,10 +21,6 @@ use Rattle.event_words.proofs.Cases.{by_test}
 use Rattle.history_laws.specs.Live.{kind_of_verdict}
 use Rattle.script_generator.specs.Summaries.{reply_code, entry_code, verdict_codes}
 
-and_both : (a b : Bool) → (a && b) ≡ true → (a ≡ true) × (b ≡ true)
-and_both true b h = (refl, h)
-and_both false b h = absurd (let n : false ≡ true = h in cc)
-
 -- ---- slots
 
 slot_last : (slots : List (Option OpenSlot)) (o : Option OpenSlot) → slot_of (slots ++ o ∷ []) (length slots) ≡ o
@@ -38,10 +34,6 @@ closed_length reply i slots = by (is_verdict reply)
     by : (b : Bool) → length (if b then slice_set slots i None else slots) ≡ length slots
     by true = length-set slots i None
     by false = refl
-
-more_slots : (slots : List (Option OpenSlot)) (o : Option OpenSlot) → length (slots ++ o ∷ []) ≡ length slots + 1
-more_slots [] o = refl
-more_slots (x ∷ slots) o = let h = more_slots slots o in omega arith
 
 -- ---- one transaction
 
@@ -123,6 +115,6 @@ module _ (c : ℕ) (decides : Access → Verdict) where
       let all = subst (AllByRecursion PassesHere) both p in
       let decided : y.reply ≡ replies.Verdict (decides a) = pairs.0 a submitted judged in
       let closed = closed_by y.reply (length slots) opened in
-      let long : length closed ≡ length slots + 1 = closed_length y.reply (length slots) opened ∙ more_slots slots (opened_slot 0 s.0) in
+      let long : length closed ≡ length slots + 1 = closed_length y.reply (length slots) opened ∙ length_push slots (opened_slot 0 s.0) in
       let later = lane_codes more closed t.1 end (subst (λ k. end_of_commands c (judged_accesses k more) closed t.1 ≡ Some end) (sym long) t.4) w.1 all.1.1 (pairs_after IsDecidedNext t.0 t.1 pairs.1) in
       ap verdict_codes both ∙ codes_of_pair a s.0 t.0 t.1 passed decided ∙ ap (λ cs. kind_of_verdict (decides a) ∷ cs) later

@@ -3,5 +3,5 @@ pub mod GeneratedExamples
 pub mod DeniedLines
 pub mod GeneratedSound
 pub mod LaneVerdicts
-pub mod CallerSums
+pub mod VerdictWeights
 pub mod SoakCounts

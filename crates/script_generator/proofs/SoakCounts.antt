@@ -11,7 +11,6 @@ use Rattle.event_words.specs.declared.shape.Shape.{Shape}
 use Rattle.event_words.specs.declared.access.Access.{Access}
 use Rattle.event_words.specs.declared.event.Event.{Event}
 use Rattle.event_words.specs.declared.event.Event.TheVariants as events
-use Rattle.event_words.specs.declared.reply.Decision.{Decision}
 use Rattle.event_words.specs.declared.reply.Decision.TheVariants as decisions
 use Rattle.event_words.specs.declared.record.LoggedEvent.{LoggedEvent}
 use Rattle.event_words.specs.Events.{caller_of}
@@ -22,26 +21,28 @@ use Rattle.event_words.specs.Sections.{SectionOf, HasNoRegisterWrites}
 use Rattle.event_words.specs.Records.{end_of_commands, events_by, is_by}
 use Rattle.event_words.specs.Stalls.{flag_of}
 use Rattle.policy_compiler.specs.declared.image.RegPair.{RegPair}
-use Rattle.policy_compiler.specs.Laws.{kind_of}
 use Rattle.unit_core.specs.Units.{UnitState, event_step, step_at}
 use Rattle.unit_core.specs.Histories.{IsLegalHistory, HasRecord, HaveRecords, history_of, aims_at, units_at, event_at, logged_in}
-use Rattle.history_laws.specs.Verdicts.{decided, verdict_of}
+use Rattle.history_laws.specs.Verdicts.{decided}
 use Rattle.history_laws.specs.Unwritten.{units_after_boot}
 use Rattle.unit_core.proofs.Runs.{own_state}
-use Rattle.history_laws.proofs.Writes.{all_filter}
+use Rattle.history_laws.proofs.Writes.{all_filter, some_of}
 use Rattle.history_laws.proofs.WriteRecords.{event_of, write_by}
 use Rattle.history_laws.proofs.WordHistories.{is_entry}
 use Rattle.event_words.proofs.Pairs.{pairs_of}
+use Rattle.event_words.proofs.CallerSums.{totals, sum_is}
+use Rattle.event_words.proofs.ListItems.{all_of}
 use Rattle.history_laws.proofs.UnwrittenLaw.{caller_within}
 use Rattle.history_laws.proofs.Unstalled.{from_each, IsUnstalled, IsUnwritten, IsPassed, IsAnswered, state_booted, all_passed, pairs_answered}
-use Rattle.history_laws.proofs.BootWrites.{some_of, LeavesFlags, idle, boot_entries, booted_unit}
+use Rattle.history_laws.proofs.BootWrites.{LeavesFlags, idle, boot_entries, booted_unit}
 use Rattle.script_generator.specs.GeneratedScripts.{draw, drawn_access, transaction, lane_after, generated_lane, generated_shape, write_at, boot_writes, generated_boot, generated_script}
-use Rattle.history_laws.specs.Live.{kind_of_verdict}
+use Rattle.history_laws.proofs.VerdictKinds.{verdict_kind}
 use Rattle.script_generator.specs.Summaries.{is_code, denied_lines, summary_text, reply_code, entry_code, verdict_codes, submitted, lane_accesses, generated_registers, decided_code, soak_text}
 use Rattle.script_generator.specs.SoakHistories.{IsSoak}
 use Rattle.script_generator.proofs.GeneratedSound.{generated_quiet, each_lane, drawn_narrow}
 use Rattle.script_generator.proofs.LaneVerdicts.{judged_accesses, IsNarrow, PassesHere, IsDecidedNext, lane_codes}
-use Rattle.script_generator.proofs.CallerSums.{weight, entry_weight, codes_weight, totals, sum_is}
+use Rattle.script_generator.proofs.VerdictWeights.{weight, entry_weight, codes_weight}
+use Rattle.script_reader.proofs.Needs.{length_sum}
 
 -- ---- lanes of judged transactions
 
@@ -139,10 +140,6 @@ generated_boots : (lanes : List SectionOf) (words : List ℕ) → IsLegalHistory
 unfolding generated_registers
 generated_boots lanes words legal = booted_unit generated_shape generated_boot lanes words boot_writes refl leave legal
 
-code_decided : (s : UnitState) (a : Access) (d : Decision) → kind_of_verdict (verdict_of s a d) ≡ kind_of d
-code_decided s a decisions.Allowed = refl
-code_decided s a (decisions.Denied kind entry mute_irq mute_err) = refl
-
 -- ---- a write replies no verdict
 
 silent_step : (k : ℕ) (aims : List ℕ) (us : List UnitState) (u c i v : ℕ) → reply_code (event_step k aims us (events.RegWrite u c i v)).1 ≡ None
@@ -175,10 +172,6 @@ no_weight g (x ∷ xs) (p ∷ ps) e h =
     omega (arith, sum_by-cons (entry_weight g) x xs, none, no_weight g xs ps rest h.1)
 
 -- ---- the codes of a legal history
-
-all_of : {X : Type 0} (P Q : X → Type 0) (xs : List X) → ((x : X) → P x → Q x) → AllByRecursion P xs → AllByRecursion Q xs
-all_of P Q [] each h = tt
-all_of P Q (x ∷ xs) each h = (each x h.0, all_of P Q xs each h.1)
 
 abbrev shapes : List Shape
 shapes = generated_shape ∷ []
@@ -214,7 +207,7 @@ module _ (lanes : List SectionOf) (words : List ℕ) (legal : IsLegalHistory sha
       let pairs = pairs_of (IsAnswered shapes generated_boot lanes words unwritten c) (IsDecidedNext c (decided booted)) (events_by c (logged_in shapes words))
       (λ x y p a e f. p 0 generated_shape a refl e f ∙ ap (λ s. replies.Verdict (decided s a)) state_is) (pairs_answered shapes generated_boot lanes words unwritten c some) in
       lane_codes c (decided booted) (lane_accesses s) [] (events_by c (logged_in shapes words)) ended.0 cut lane.narrow passes pairs
-      ∙ ap (λ f. map f (lane_accesses s)) (fun_ext (λ a. code_decided booted a (decision generated_registers a)))
+      ∙ ap (λ f. map f (lane_accesses s)) (fun_ext (λ a. verdict_kind booted a (decision generated_registers a)))
 
   lanes_total : (g : ℕ → ℕ) (ss : List SectionOf) (i : ℕ) → 1 ≤ i → AllByRecursion (IsJudgedLane 4096) ss → HaveRecords xs i ss → totals (entry_weight g) xs i (length ss) ≡ sum_by g (map decided_code (flat_map lane_accesses ss))
   lanes_total g [] i some judged records = refl
@@ -245,10 +238,6 @@ module _ (lanes : List SectionOf) (words : List ℕ) (legal : IsLegalHistory sha
       ∙ lanes_total g lanes 1 (omega arith) judged legal.lane_records
 
 -- ---- the summary
-
-length_sum : (ns : List ℕ) → length ns ≡ sum_by (λ n. 1) ns
-length_sum [] = refl
-length_sum (n ∷ ns) = omega (arith, sum_by-cons (λ (m : ℕ). 1) n ns, length_sum ns)
 
 same_lines : (ns ms : List ℕ) → ((g : ℕ → ℕ) → sum_by g ns ≡ sum_by g ms) → denied_lines ns ≡ denied_lines ms
 unfolding denied_lines

@@ -1,5 +1,5 @@
 -- What is merged of the replies that all callers kept is what the units reply at each place.
-use Rattle.std.proofs.Common.{◌≡◌, ℕ, zero, suc, ◌+◌, ◌<◌, get_or, set, replicate, add-one, ◌≤◌, Bool, true, false, cond, List, [], ◌∷◌, ◌++◌, Option, None, Some, length, map, take, refl, sym, ap, subst, ◌∙◌, arith, eq-eqb, append-nil, length-append, inl, inr}
+use Rattle.std.proofs.Common.{◌≡◌, ℕ, zero, suc, ◌+◌, ◌<◌, get_or, set, add-one, ◌≤◌, Bool, true, false, cond, List, [], ◌∷◌, ◌++◌, Option, None, Some, length, map, take, refl, sym, ap, subst, ◌∙◌, arith, eq-eqb, append-nil, length-append, inl, inr}
 use Rattle.std.proofs.lemmas.Bool.{eqb-true}
 use Rattle.std.proofs.lemmas.List.{take_more, take_all, length-take-le, get_or-set_same, get_or-set_other}
 use Rattle.std.specs.Prelude.{◌==◌, IfSome, slice_get, slice_index_or}
@@ -266,11 +266,6 @@ merged_more kept words next replies after by i c r lt few count is there pushed 
     ap (replies_by c (take (i + 1) words)) pushed
     ∙ one_word_more c by (get_or next c 0) i words replies (list_of kept c) r lt count (sym is) so (λ same. subst (λ k. slice_get (list_of kept k) (get_or next k 0) ≡ Some r) same there)
     ∙ ap (λ n. take n (list_of kept c)) (sym (counted next by c few))
-
-pub zeros : (n c : ℕ) → ◌≡◌ {A = ℕ} (get_or (replicate n 0) c 0) 0
-zeros zero c = refl
-zeros (suc n) zero = refl
-zeros (suc n) (suc c) = zeros n c
 
 -- an item of a list is one of it
 pub item_is_one : (callers : List PortView) (i : ℕ) (c : PortView) → i < length callers → c ≡ get_or callers i c → IsOneOf c callers

@@ -1,5 +1,5 @@
 -- Lanes that play the sections of a script make a legal history.
-use Rattle.std.proofs.Common.{◌≡◌, ℕ, suc, ◌+◌, ◌*◌, ◌<◌, ◌≤◌, List, [], ◌∷◌, ◌++◌, length, map, get_or, refl, sym, ap, ◌∙◌, subst, arith, zero-add, Some, Option, lt_of_not-le, ◌/◌, max, length-append}
+use Rattle.std.proofs.Common.{◌≡◌, ℕ, suc, ◌+◌, ◌*◌, ◌<◌, ◌≤◌, List, [], ◌∷◌, ◌++◌, length, map, get_or, refl, sym, ap, ◌∙◌, subst, arith, zero-add, Some, Option, ◌/◌, max, length-append}
 use Rattle.std.proofs.Math.ListN.{get_or-append}
 use Rattle.std.proofs.Math.Seq.{get_or-append_seam}
 use Rattle.std.proofs.lemmas.List.{length-map, map-append}
@@ -13,7 +13,9 @@ use Rattle.event_words.specs.declared.record.SectionEnd.{SectionEnd}
 use Rattle.event_words.specs.Runs.{caller_of_word, logged}
 use Rattle.event_words.specs.Records.{section_end, events_by}
 use Rattle.event_words.specs.Sections.{SectionOf, most_section_events, IsValidSection, NamesOnlyUnits}
-use Rattle.script_reader.specs.Scripts.{ScriptOf, most_from, need_of}
+use Rattle.event_words.proofs.ListItems.{all_after}
+use Rattle.script_reader.specs.Scripts.{ScriptOf, most_from, need_of, HasAtMost}
+use Rattle.script_reader.proofs.Needs.{at_least, each_within}
 use Rattle.unit_core.specs.Units.{FabricState, fabric_at_reset}
 use Rattle.unit_core.specs.Fabrics.{FabricView, state_after_word, reply_to_word}
 use Rattle.unit_core.specs.Histories.{IsBoot, IsOfLane, BootComesFirst, HasRecord, HaveRecords, IsLegalHistory, logged_in}
@@ -21,7 +23,7 @@ use Rattle.shared_log.specs.Words.{words_by, AllEventWords}
 use Rattle.shared_log.specs.Callers.{SharedView, Belongs}
 use Rattle.shared_log.specs.Histories.{HoldsCaller}
 use Rattle.shared_log.proofs.WordLists.{words-append, append-none-right}
-use Rattle.shared_log.proofs.Counting.{words-own, words-other}
+use Rattle.shared_log.proofs.Counting.{words-own, words-other, below, tail_none}
 use Rattle.shared_log.proofs.Histories.{own_events-in-history, own_events-at-first}
 use Rattle.checker_workers.specs.Ports.{PortView, IsAtReset, port_events}
 use Rattle.checker_workers.specs.Lanes.{LaneView, MayPlay, MayRun, Runs}
@@ -29,7 +31,7 @@ use Rattle.checker_workers.specs.declared.lane.LaneEnd.TheVariants.{Fresh}
 use Rattle.checker_workers.proofs.Turns.{belongs_still}
 use Rattle.shared_log.specs.Callers.{KeepsBudget}
 use Rattle.script_player.specs.declared.players.Player.{Player}
-use Rattle.script_player.specs.PlayedSections.{section_of, HasAtMost, IsPlayer, IsReadyPlayer, MayAllPlay, MayBePlayed, HasPlayed, IsFirstCaller, MaySplit, IsReadyLane, AreReadyLanes, RunsTo}
+use Rattle.script_player.specs.PlayedSections.{section_of, IsPlayer, IsReadyPlayer, MayAllPlay, MayBePlayed, HasPlayed, IsFirstCaller, MaySplit, IsReadyLane, AreReadyLanes, RunsTo}
 
 -- ---- the record of a caller, in the history
 
@@ -52,13 +54,6 @@ records events i (s ∷ ss) h = (
 
 -- ---- whose events come first
 
-pub at_most : (w : ℕ) (ws : List ℕ) → words_by (caller_of_word w) (w ∷ ws) ≡ [] → ⊥
-at_most w ws none = let e : w ∷ words_by (caller_of_word w) ws ≡ [] = sym (words-own (caller_of_word w) w ws refl) ∙ none in cc
-
-below : (n w : ℕ) (ws : List ℕ) → ((c : ℕ) → n ≤ c → words_by c (w ∷ ws) ≡ []) → Dec (n ≤ caller_of_word w) → caller_of_word w < n
-below n w ws none (yes h) = absurd (at_most w ws (none (caller_of_word w) h))
-below n w ws none (no h) = lt_of_not-le h
-
 tail_at : (c w : ℕ) (ws : List ℕ) → words_by c (w ∷ ws) ≡ [] → Dec (caller_of_word w ≡ c) → words_by c ws ≡ []
 tail_at c w ws none (yes h) = let e : w ∷ words_by c ws ≡ [] = sym (words-own c w ws h) ∙ none in cc
 tail_at c w ws none (no h) = sym (words-other c w ws h) ∙ none
@@ -66,22 +61,19 @@ tail_at c w ws none (no h) = sym (words-other c w ws h) ∙ none
 tail_of : (c w : ℕ) (ws : List ℕ) → words_by c (w ∷ ws) ≡ [] → words_by c ws ≡ []
 tail_of c w ws none = tail_at c w ws none (ℕ_discrete (caller_of_word w) c)
 
-tail : (n w : ℕ) (ws : List ℕ) → ((c : ℕ) → n ≤ c → words_by c (w ∷ ws) ≡ []) → (c : ℕ) → n ≤ c → words_by c ws ≡ []
-tail n w ws none c h = tail_of c w ws (none c h)
-
 other : (w : ℕ) (ws : List ℕ) → words_by 0 (w ∷ ws) ≡ [] → Dec (caller_of_word w ≡ 0) → 1 ≤ caller_of_word w
 other w ws none (yes h) = let e : w ∷ words_by 0 ws ≡ [] = sym (words-own 0 w ws h) ∙ none in cc
 other w ws none (no h) = omega arith
 
 pub boot_words : (ws : List ℕ) → ((c : ℕ) → 1 ≤ c → words_by c ws ≡ []) → AllByRecursion IsBoot ws
 boot_words [] none = tt
-boot_words (w ∷ ws) none = (let lt = below 1 w ws none (dec_le 1 (caller_of_word w)) in omega arith, boot_words ws (tail 1 w ws none))
+boot_words (w ∷ ws) none = (let lt = below 1 w ws none (dec_le 1 (caller_of_word w)) in omega arith, boot_words ws (tail_none 1 w ws (below 1 w ws none (dec_le 1 (caller_of_word w))) none))
 
 lane_words : (n : ℕ) (ws : List ℕ) → words_by 0 ws ≡ [] → ((c : ℕ) → n + 1 ≤ c → words_by c ws ≡ []) → AllByRecursion (IsOfLane n) ws
 lane_words n [] first none = tt
 lane_words n (w ∷ ws) first none =
     let lt = below (n + 1) w ws none (dec_le (n + 1) (caller_of_word w)) in
-    ((other w ws first (ℕ_discrete (caller_of_word w) 0), omega arith), lane_words n ws (tail_of 0 w ws first) (tail (n + 1) w ws none))
+    ((other w ws first (ℕ_discrete (caller_of_word w) 0), omega arith), lane_words n ws (tail_of 0 w ws first) (tail_none (n + 1) w ws lt none))
 
 boot_first : (n : ℕ) (history log rest : List ℕ) → history ≡ log ++ rest → ((c : ℕ) → 1 ≤ c → words_by c log ≡ []) → words_by 0 rest ≡ [] → ((c : ℕ) → n + 1 ≤ c → words_by c history ≡ []) → BootComesFirst n history
 boot_first n history log rest is own none others = record {
@@ -186,11 +178,7 @@ may_split shared p q n e first more = record {
 
 -- what holds of all items of a list holds of the one behind the first of them
 pub item_behind : {A : Type 0} (P : A → Type 0) (before : List A) (x : A) (after all : List A) → before ++ x ∷ after ≡ all → AllByRecursion P all → P x
-item_behind P before x after all is h = at before (subst (AllByRecursion P) (sym is) h)
-  where
-    at : (ys : List _) → AllByRecursion P (ys ++ x ∷ after) → P x
-    at [] h = h.0
-    at (y ∷ ys) h = at ys h.1
+item_behind P before x after all is h = (all_after P before (x ∷ after) (subst (AllByRecursion P) (sym is) h)).0
 
 pub none_ready : (shared : SharedView) (first : FabricState) → AreReadyLanes shared first [] []
 none_ready shared first = record { count = refl; each = λ k s d lt. absurd (omega arith) }
@@ -225,14 +213,6 @@ more_ready_for shared first players player lanes after lane n r pushed number l 
     (more_ready shared first (map section_of players) lanes player.section lane r (subst (λ k. IsReadyLane shared first k player.section lane) e l)))
 
 -- ---- the budget
-
-pub at_least : (n : ℕ) (ss : List SectionOf) → n ≤ most_from n ss
-at_least n [] = omega arith
-at_least n (s ∷ ss) = let h = at_least (max n (most_section_events s)) ss in omega arith
-
-pub each_within : (n : ℕ) (ss : List SectionOf) → AllByRecursion (HasAtMost (most_from n ss)) ss
-each_within n [] = tt
-each_within n (s ∷ ss) = (let h = at_least (max n (most_section_events s)) ss in omega arith, each_within (max n (most_section_events s)) ss)
 
 -- the need divided by the callers
 pub shared_need : (script : ScriptOf) (count need : ℕ) → count ≡ length script.lanes → need ≡ need_of script → need / (count + 1) ≡ most_from (max 1 (most_section_events script.boot)) script.lanes

@@ -48,10 +48,6 @@ pub record MaySplit (shared : SharedView) (c : PortView) : Type 0 where
   pub more : c.made < shared.callers
   pub reset : IsAtReset c.first
 
--- The section makes at most so many events.
-abbrev pub HasAtMost : ℕ → SectionOf → Type 0
-HasAtMost most section = most_section_events section ≤ most
-
 -- What a section needs of units and of a budget to be played.
 pub record MayBePlayed (units budget : ℕ) (section : SectionOf) : Type 0 where
   pub valid : IsValidSection section

@@ -2,8 +2,7 @@
 ghost use Rattle.std.specs.Prelude.{◌+◌, ◌*◌, ◌≤◌, length};
 ghost use Rattle.std.specs.List.{AllByRecursion};
 ghost use Rattle.event_words.specs.Sections.{most_section_events};
-ghost use Rattle.script_reader.specs.Scripts.{IsWellFormedScript, need_of};
-ghost use Rattle.script_player.specs.PlayedSections.{HasAtMost};
+ghost use Rattle.script_reader.specs.Scripts.{IsWellFormedScript, need_of, HasAtMost};
 
 use script_reader::Script;
 

@@ -1,14 +1,15 @@
 -- The lines of a text, byte by byte, and the parts of an input, line by line.
-use Rattle.std.proofs.Common.{◌≡◌, ℕ, ◌+◌, ◌-◌, ◌<◌, not, Bool, true, false, cond, if◌then◌else◌, ◌++◌, List, [], ◌∷◌, Ok, take, drop, get_or, length, codes, drop-cons, add-one, take-append-drop, refl, sym, ap, ◌∙◌, eq-eqb, arith}
+use Rattle.std.proofs.Common.{◌≡◌, ℕ, ◌+◌, ◌-◌, ◌<◌, not, Bool, true, false, cond, if◌then◌else◌, ◌++◌, List, [], ◌∷◌, Ok, take, drop, get_or, length, codes, take-append-drop, refl, sym, ap, ◌∙◌, eq-eqb, arith}
+use Rattle.std.proofs.lemmas.Bool.{not-true, and_parts}
 use Rattle.std.specs.Prelude.{◌==◌}
 use Rattle.std.specs.List.{concat}
 use Rattle.std.proofs.Math.Seq.{take-add, take-length, drop-length}
-use Rattle.std.proofs.lemmas.List.{append-nil, take_more, take_rest, drop-drop}
+use Rattle.std.proofs.lemmas.List.{append-nil, take_more, take_rest, drop-drop, drop_more}
 use Rattle.std.proofs.lemmas.List.Sums.{passes_at_first}
 use Rattle.script_reader.specs.Text.{is_line_feed, line_end, first_line, words_of, without_last_line_feed}
 use Rattle.script_reader.specs.UpdateTexts.{is_heading}
 use Rattle.script_reader.specs.ReportTexts.{ReportTextOf, fed_lines, with_byte, report_text_from, report_text_at}
-use Rattle.script_reader.proofs.Parts.{clear, not_true, and_left, and_right, clear_before, without_append, last_clear, is_ten}
+use Rattle.script_reader.proofs.Parts.{clear, clear_before, without_append, last_clear, is_ten}
 
 -- lines, of which the first has these bytes before it
 abbrev pub onto : List ℕ → List (List ℕ) → List (List ℕ)
@@ -27,9 +28,6 @@ onto_none : (b : ℕ) (bs : List ℕ) → onto (b ∷ bs) [] ≡ (b ∷ bs) ∷ 
 onto_none b [] = refl
 onto_none b (c ∷ bs) = ap (with_byte b) (onto_none c bs)
 
-left_more : (bytes : List ℕ) (i : ℕ) → i < length bytes → drop i bytes ≡ get_or bytes i 0 ∷ drop (i + 1) bytes
-left_more bytes i h = drop-cons bytes i 0 h ∙ ap (λ n. get_or bytes i 0 ∷ drop n bytes) (sym (add-one i))
-
 other_byte : (b : ℕ) (bs : List ℕ) → is_line_feed b ≡ false → fed_lines (b ∷ bs) ≡ with_byte b (fed_lines bs)
 other_byte b bs h = ap (λ t. cond t ((b ∷ []) ∷ fed_lines bs) (with_byte b (fed_lines bs))) h
 
@@ -40,7 +38,7 @@ line_ends : (bytes : List ℕ) (i : ℕ) → i < length bytes → get_or bytes i
     → fed_lines bytes ≡ onto (take i bytes) (fed_lines (drop i bytes)) → fed_lines bytes ≡ take (i + 1) bytes ∷ fed_lines (drop (i + 1) bytes)
 line_ends bytes i h n e =
     let b = get_or bytes i 0 in
-    e ∙ ap (λ bs. onto (take i bytes) (fed_lines bs)) (left_more bytes i h) ∙ ap (onto (take i bytes)) (line_feed b (drop (i + 1) bytes) n)
+    e ∙ ap (λ bs. onto (take i bytes) (fed_lines bs)) (drop_more bytes i 0 h) ∙ ap (onto (take i bytes)) (line_feed b (drop (i + 1) bytes) n)
     ∙ onto_line (take i bytes) (b ∷ []) (fed_lines (drop (i + 1) bytes)) ∙ ap (λ bs. bs ∷ fed_lines (drop (i + 1) bytes)) (sym (take_more bytes i 0 h))
 
 whole : (bytes : List ℕ) → 0 < length bytes → onto bytes [] ≡ bytes ∷ []
@@ -60,7 +58,7 @@ text_ends bytes i h same e =
 -- bytes that are no line feeds stand before the first of the other lines
 clear_onto : (xs ys : List ℕ) → clear is_line_feed xs ≡ true → fed_lines (xs ++ ys) ≡ onto xs (fed_lines ys)
 clear_onto [] ys h = refl
-clear_onto (x ∷ xs) ys h = other_byte x (xs ++ ys) (not_true (is_line_feed x) (and_left (not (is_line_feed x)) _ h)) ∙ ap (with_byte x) (clear_onto xs ys (and_right (not (is_line_feed x)) _ h))
+clear_onto (x ∷ xs) ys h = other_byte x (xs ++ ys) (not-true (is_line_feed x) (and_parts (not (is_line_feed x)) _ h).0) ∙ ap (with_byte x) (clear_onto xs ys (and_parts (not (is_line_feed x)) _ h).1)
 
 first_onto : (bytes : List ℕ) → fed_lines bytes ≡ onto (first_line bytes) (fed_lines (drop (line_end bytes) bytes))
 first_onto bytes = ap fed_lines (sym (take-append-drop (line_end bytes) bytes)) ∙ clear_onto (first_line bytes) (drop (line_end bytes) bytes) (clear_before is_line_feed bytes)

@@ -1,6 +1,6 @@
 -- The first line of a text, and the words that begin in it.
 use Rattle.std.proofs.Common.{◌≡◌, ◌≢◌, ◌⊎◌, ℕ, ◌+◌, ◌-◌, ◌<◌, ◌≤◌, ◌||◌, Bool, true, false, List, None, Some, length, position, drop, get_or, slice_index, refl, ap, sym, subst, ◌∙◌, inl, inr, arith, length-drop, get_or-take}
-use Rattle.std.proofs.lemmas.Bool.{cases_lt}
+use Rattle.std.proofs.lemmas.Bool.{cases_lt, or_parts, or_right}
 use Rattle.std.proofs.lemmas.Bool.Decides.{nat_tests}
 use Rattle.std.proofs.lemmas.List.{length-take-le, get_or-drop, take_rest}
 use Rattle.std.proofs.lemmas.List.Sums.{prefix_len-le-length, position_or_len_is, fails_before_first, passes_at_first}
@@ -8,6 +8,7 @@ use Rattle.std.specs.List.{position_or_len}
 use Rattle.script_reader.specs.Text.{is_blank, is_line_feed, ends_word, line_end, first_line}
 use Rattle.script_reader.specs.Words.{IsWordTo}
 use Rattle.script_reader.proofs.Parts.{is_ten, word_to_blank, word_to_end}
+use Rattle.script_reader.proofs.Slots.{not_both}
 
 pub line_within : (text : List ℕ) → line_end text ≤ length text
 line_within text = prefix_len-le-length _ text
@@ -17,9 +18,6 @@ line_length text = length-take-le (line_end text) text (line_within text)
 
 pub same_byte : (text : List ℕ) (k : ℕ) → k < line_end text → get_or (first_line text) k 0 ≡ get_or text k 0
 same_byte text k h = get_or-take (line_end text) text k 0 h
-
-not_both : (b : Bool) → b ≡ true → b ≡ false → ⊥
-not_both b t f = cc
 
 -- a line feed that isn't past the first line ends it
 pub feed_ends : (text : List ℕ) (at : ℕ) → at ≤ line_end text → get_or text at 0 ≡ 10 → at ≡ line_end text
@@ -65,14 +63,6 @@ runs_to line start end within begins forward short before stops =
           (word_to_end line start within begins (ap (position is_blank) (take_rest line start) ∙ position_none is_blank rest (end - start) first (omega (arith, long, none))))
     ]
 
-or_left : (a b : Bool) → (a || b) ≡ false → a ≡ false
-or_left true b e = e
-or_left false b e = refl
-
-or_right : (a b : Bool) → b ≡ true → (a || b) ≡ true
-or_right true b e = refl
-or_right false b e = e
-
 only_left : (a b : Bool) → b ≡ false → (a || b) ≡ true → a ≡ true
 only_left true b f e = refl
 only_left false b f e = sym f ∙ e
@@ -97,5 +87,5 @@ first_word text start end begins word forward within before stops =
     within_line (inr up_to) = up_to
 
     not_blank : (k : ℕ) → (start < k) ⊎ (k ≤ start) → start ≤ k → k < end → is_blank (get_or text k 0) ≡ false
-    not_blank k (inl after) h l = or_left (is_blank (get_or text k 0)) _ (before k after l)
+    not_blank k (inl after) h l = (or_parts (is_blank (get_or text k 0)) _ (before k after l)).0
     not_blank k (inr up_to) h l = let here : k ≡ start = omega (arith, h, up_to) in ap (λ i. is_blank (get_or text i 0)) here ∙ word

@@ -2,7 +2,7 @@
 use Rattle.std.proofs.Common.{◌≡◌, ℕ, zero, suc, ◌+◌, ◌-◌, ◌*◌, ◌^◌, ◌<◌, ◌≤◌, ◌&&◌, nat_le, nat_eq, Bool, true, false, cond, List, [], ◌∷◌, ◌++◌, None, Some, Option, length, map, get_or, slice_index, is_none, if◌then◌else◌, refl, ap, sym, subst, ◌∙◌, inl, inr, arith, length-append}
 use Rattle.std.proofs.Math.Nat.{pow-le-pow_right}
 use Rattle.std.proofs.lemmas.Grind.{pow_more}
-use Rattle.std.proofs.lemmas.Bool.{cases_Bool, cases_lt, leb-true, eq-eqb}
+use Rattle.std.proofs.lemmas.Bool.{cases_Bool, cases_lt, leb-true, eq-eqb, and_from, and_parts}
 use Rattle.std.proofs.lemmas.Bool.Decides.{nat_tests, eqb_tells}
 use Rattle.std.proofs.lemmas.List.{get_or_push, get_or-map, length-map}
 use Rattle.std.proofs.lemmas.List.Elements.{All-get_or}
@@ -15,10 +15,8 @@ use Rattle.std.specs.List.{list_all}
 use Rattle.std.specs.Str.{bytes_eq}
 use Rattle.script_reader.specs.Names.{is_letter, is_letter_or_digit, is_name, key_after, key_of, name_key, slot_of, AreKeysOf}
 use Rattle.script_reader.specs.KeySlots.{key_slot}
-use Rattle.script_reader.proofs.Parts.{and_left, and_right}
-use Rattle.script_reader.proofs.Slots.{slot_more}
+use Rattle.script_reader.proofs.Slots.{slot_more, not_both}
 use Rattle.script_reader.proofs.KeySlots.{key_slot_more}
-use Rattle.script_reader.proofs.Written.{both}
 
 -- ---- the number of a name so far
 
@@ -56,16 +54,16 @@ same_after p q [] [] long h k e = (e, refl)
 same_after p q [] (c ∷ cs) long h k e = absurd (omega (arith, long))
 same_after p q (b ∷ bs) [] long h k e = absurd (omega (arith, long))
 same_after p q (b ∷ bs) (c ∷ cs) long h k e =
-    let rest = same_after (p * 256 + b) (q * 256 + c) bs cs (omega (arith, long)) (and_right (is_letter_or_digit b) _ h) (and_right (is_letter_or_digit c) _ k) e in
-    let parts = last_byte p q b c (is_byte b (and_left _ _ h)).1 (is_byte c (and_left _ _ k)).1 rest.0 in
+    let rest = same_after (p * 256 + b) (q * 256 + c) bs cs (omega (arith, long)) (and_parts (is_letter_or_digit b) _ h).1 (and_parts (is_letter_or_digit c) _ k).1 e in
+    let parts = last_byte p q b c (is_byte b (and_parts _ _ h).0).1 (is_byte c (and_parts _ _ k).0).1 rest.0 in
     (parts.0, ap (λ x. x ∷ bs) parts.1 ∙ ap (λ l. c ∷ l) rest.1)
 
 -- more bytes give another number, since none is zero
 longer_after : (p : ℕ) (w v : List ℕ) → length v < length w → list_all is_letter_or_digit w ≡ true → list_all is_letter_or_digit v ≡ true → key_after p w ≡ key_of v → ⊥
 longer_after p [] v more h k e = omega (arith, more)
 longer_after p (b ∷ bs) v more h k e =
-    let some : 1 ≤ b = (is_byte b (and_left _ _ h)).0 in
-    let rest : list_all is_letter_or_digit bs ≡ true = and_right (is_letter_or_digit b) _ h in
+    let some : 1 ≤ b = (is_byte b (and_parts _ _ h).0).0 in
+    let rest : list_all is_letter_or_digit bs ≡ true = (and_parts (is_letter_or_digit b) _ h).1 in
     elim (cases_lt (length v) (length bs)) [
       | inl still ↦ longer_after (p * 256 + b) bs v still rest k e
       | inr even ↦ omega (arith, some, (same_after (p * 256 + b) 0 bs v (omega (arith, even, more)) rest k e).0)
@@ -84,23 +82,20 @@ same_key w v h k e =
 
 byte_small : (w : List ℕ) → list_all is_letter_or_digit w ≡ true → (k : ℕ) → get_or w k 0 < 256
 byte_small [] h k = omega arith
-byte_small (b ∷ bs) h zero = (is_byte b (and_left _ _ h)).1
-byte_small (b ∷ bs) h (suc k) = byte_small bs (and_right (is_letter_or_digit b) _ h) k
+byte_small (b ∷ bs) h zero = (is_byte b (and_parts _ _ h).0).1
+byte_small (b ∷ bs) h (suc k) = byte_small bs (and_parts (is_letter_or_digit b) _ h).1 k
 
 -- ---- a name has at most eight letters and digits
 
 pub name_short : (w : List ℕ) → is_name w ≡ true → length w ≤ 8
 unfolding is_name
-name_short w h = leb-true (length w) 8 (and_right (nat_le 1 (length w)) _ (and_left _ _ h))
+name_short w h = leb-true (length w) 8 (and_parts (nat_le 1 (length w)) _ (and_parts _ _ h).0).1
 
 name_bytes : (w : List ℕ) → is_name w ≡ true → list_all is_letter_or_digit w ≡ true
 unfolding is_name
-name_bytes w h = and_right (is_letter (slice_index w 0)) _ (and_right (nat_le 1 (length w) && nat_le (length w) 8) _ h)
+name_bytes w h = (and_parts (is_letter (slice_index w 0)) _ (and_parts (nat_le 1 (length w) && nat_le (length w) 8) _ h).1).1
 
 -- ---- the numbers of names with one name more
-
-false_not_true : (b : Bool) → b ≡ false → b ≡ true → ⊥
-false_not_true b f t = cc
 
 pub none_is : (o : Option ℕ) → is_none o ≡ true → o ≡ None
 none_is None e = refl
@@ -128,7 +123,7 @@ key_test w q h k =
       | inl t ↦ eq-eqb (key_of q) (key_of w) (ap key_of (sym ((bytes_eq-Decides w q).0 t))) ∙ sym t
       | inr f ↦
           elim (eqb_tells (key_of q) (key_of w)) [
-            | inl same ↦ absurd (false_not_true (bytes_eq w q) f ((bytes_eq-Decides w q).1 (same_key w q (name_bytes w h) (name_bytes q k) (sym same.1))))
+            | inl same ↦ absurd (not_both (bytes_eq w q) ((bytes_eq-Decides w q).1 (same_key w q (name_bytes w h) (name_bytes q k) (sym same.1))) f)
             | inr other ↦ other.0 ∙ sym f
           ]
     ]
@@ -152,7 +147,7 @@ last_added names w none =
     ∙ ap Some (sym count)
 
 more_named : (names : List (List ℕ)) (w : List ℕ) → list_all is_name names ≡ true → is_name w ≡ true → list_all is_name (names ++ w ∷ []) ≡ true
-more_named names w all h = list_all-append is_name names (w ∷ []) ∙ both _ _ all (both _ _ h refl)
+more_named names w all h = list_all-append is_name names (w ∷ []) ∙ and_from _ _ all (and_from _ _ h refl)
 
 -- what has a slot is a name
 pub named_is : (names : List (List ℕ)) (w : List ℕ) (slot : ℕ) → list_all is_name names ≡ true → slot_of names w ≡ Some slot → is_name w ≡ true

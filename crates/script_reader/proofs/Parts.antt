@@ -1,5 +1,6 @@
 -- The first line of a text, and the first word of a line.
 use Rattle.std.proofs.Common.{◌≡◌, ℕ, zero, suc, ◌+◌, ◌-◌, ◌<◌, ◌≤◌, ◌==◌, ◌&&◌, ◌||◌, not, Bool, true, false, cond, if◌then◌else◌, List, [], ◌∷◌, ◌++◌, None, Some, length, filter, position, take, drop, get_or, slice_index, refl, ap, sym, subst, ◌∙◌, arith, length-append, length-drop}
+use Rattle.std.proofs.lemmas.Bool.{not-true, and_parts}
 use Rattle.std.proofs.lemmas.Bool.Decides.{nat_tests}
 use Rattle.std.proofs.lemmas.List.{append-nil, take_all, length-take-le, drop_more, drop_all, drop-drop, get_or-drop, take_rest}
 use Rattle.std.proofs.lemmas.List.Splits.{slice_split-cons_yes, slice_split-cons_no}
@@ -12,31 +13,19 @@ use Rattle.script_reader.specs.Text.{is_line_feed, is_blank, is_plain, is_plain_
 abbrev pub clear : (ℕ → Bool) → List ℕ → Bool
 clear p xs = list_all (λ b. not (p b)) xs
 
-pub not_true : (b : Bool) → not b ≡ true → b ≡ false
-not_true true e = cc
-not_true false e = refl
-
-pub and_left : (a b : Bool) → (a && b) ≡ true → a ≡ true
-and_left true b e = refl
-and_left false b e = e
-
-pub and_right : (a b : Bool) → (a && b) ≡ true → b ≡ true
-and_right true b e = e
-and_right false b e = absurd (let n : false ≡ true = e in cc)
-
 -- ---- parts between elements that pass
 
 split_clear : (p : ℕ → Bool) (xs : List ℕ) → clear p xs ≡ true → slice_split p xs ≡ xs ∷ []
 split_clear p [] h = refl
 split_clear p (x ∷ xs) h =
-    slice_split-cons_no p x xs (not_true (p x) (and_left (not (p x)) (clear p xs) h))
-    ∙ ap (onto_first x) (split_clear p xs (and_right (not (p x)) (clear p xs) h))
+    slice_split-cons_no p x xs (not-true (p x) (and_parts (not (p x)) (clear p xs) h).0)
+    ∙ ap (onto_first x) (split_clear p xs (and_parts (not (p x)) (clear p xs) h).1)
 
 split_at : (p : ℕ → Bool) (xs : List ℕ) (y : ℕ) (ys : List ℕ) → clear p xs ≡ true → p y ≡ true → slice_split p (xs ++ y ∷ ys) ≡ xs ∷ slice_split p ys
 split_at p [] y ys h hit = slice_split-cons_yes p y ys hit
 split_at p (x ∷ xs) y ys h hit =
-    slice_split-cons_no p x (xs ++ y ∷ ys) (not_true (p x) (and_left (not (p x)) (clear p xs) h))
-    ∙ ap (onto_first x) (split_at p xs y ys (and_right (not (p x)) (clear p xs) h) hit)
+    slice_split-cons_no p x (xs ++ y ∷ ys) (not-true (p x) (and_parts (not (p x)) (clear p xs) h).0)
+    ∙ ap (onto_first x) (split_at p xs y ys (and_parts (not (p x)) (clear p xs) h).1 hit)
 
 -- before the first that passes none does
 pub clear_before : (p : ℕ → Bool) (xs : List ℕ) → clear p (before_first p xs) ≡ true
@@ -89,12 +78,12 @@ lines_of_line line (y ∷ ys) h =
 
 -- the last byte of a line without line feeds isn't one
 pub last_clear : (x : ℕ) (xs : List ℕ) → clear is_line_feed (x ∷ xs) ≡ true → without_last_line_feed (x ∷ xs) ≡ x ∷ xs
-last_clear x [] h = by (x == 10) (not_true (x == 10) (and_left (not (x == 10)) true h))
+last_clear x [] h = by (x == 10) (not-true (x == 10) (and_parts (not (x == 10)) true h).0)
   where
     by : (b : Bool) → b ≡ false → (if b then [] else x ∷ []) ≡ x ∷ []
     by true e = cc
     by false e = refl
-last_clear x (y ∷ ys) h = without_more x y ys ∙ ap (λ l. x ∷ l) (last_clear y ys (and_right (not (x == 10)) (clear is_line_feed (y ∷ ys)) h))
+last_clear x (y ∷ ys) h = without_more x y ys ∙ ap (λ l. x ∷ l) (last_clear y ys (and_parts (not (x == 10)) (clear is_line_feed (y ∷ ys)) h).1)
 
 lines_of_last : (text : List ℕ) → 1 ≤ length text → clear is_line_feed text ≡ true → lines_of text ≡ text ∷ []
 lines_of_last [] some h = absurd (omega (arith, some))
@@ -212,7 +201,7 @@ not_feed false f e h = absurd (let n : false ≡ true = sym e ∙ h in cc)
 
 parts_plain : (bs : List ℕ) → list_all is_plain_or_feed bs ≡ true → AllByRecursion IsPlainLine (slice_split is_line_feed bs)
 parts_plain [] h = (refl, tt)
-parts_plain (b ∷ bs) h = by (parts_plain bs (and_right (is_plain_or_feed b) _ h)) (and_left (is_plain_or_feed b) _ h) (is_line_feed b) refl
+parts_plain (b ∷ bs) h = by (parts_plain bs (and_parts (is_plain_or_feed b) _ h).1) (and_parts (is_plain_or_feed b) _ h).0 (is_line_feed b) refl
   where
     by : AllByRecursion IsPlainLine (slice_split is_line_feed bs) → is_plain_or_feed b ≡ true → (f : Bool) → is_line_feed b ≡ f → AllByRecursion IsPlainLine (slice_split is_line_feed (b ∷ bs))
     by rest here true e = subst (AllByRecursion IsPlainLine) (sym (slice_split-cons_yes is_line_feed b bs e)) (refl, rest)
@@ -222,7 +211,7 @@ parts_plain (b ∷ bs) h = by (parts_plain bs (and_right (is_plain_or_feed b) _ 
 front_all : (p : ℕ → Bool) (k : ℕ) (bs : List ℕ) → list_all p bs ≡ true → list_all p (take k bs) ≡ true
 front_all p zero bs h = refl
 front_all p (suc k) [] h = refl
-front_all p (suc k) (b ∷ bs) h = ap (λ t. t && list_all p (take k bs)) (and_left (p b) _ h) ∙ front_all p k bs (and_right (p b) _ h)
+front_all p (suc k) (b ∷ bs) h = ap (λ t. t && list_all p (take k bs)) (and_parts (p b) _ h).0 ∙ front_all p k bs (and_parts (p b) _ h).1
 
 without_plain : (text : List ℕ) → list_all is_plain_or_feed text ≡ true → list_all is_plain_or_feed (without_last_line_feed text) ≡ true
 without_plain text h = by (slice_index text (length text - 1) == 10)

@@ -1,6 +1,6 @@
 -- The names of a printed section: `s` and a slot.
 use Rattle.std.proofs.Common.{◌≡◌, ℕ, zero, suc, ◌^◌, ◌<◌, ◌≤◌, Bool, true, false, if◌then◌else◌, List, [], ◌∷◌, ◌++◌, None, Some, Ok, Err, length, codes, is_some, refl, ap, sym, ◌∙◌, inl, inr, arith, length-append}
-use Rattle.std.proofs.lemmas.Bool.{cases_lt}
+use Rattle.std.proofs.lemmas.Bool.{cases_lt, and_from}
 use Rattle.std.proofs.lemmas.Fmt.{decimal_is_IsNumeral, decimal_injective, length-decimal-le}
 use Rattle.std.proofs.lemmas.Slice.Eq.{bytes_eq-Decides}
 use Rattle.std.specs.Fmt.{decimal}
@@ -8,7 +8,7 @@ use Rattle.std.specs.Str.{bytes_eq}
 use Rattle.script_reader.specs.Codes.{taken_name, not_a_name}
 use Rattle.script_reader.specs.Names.{is_name, known, slot_of, slot_at, with_name}
 use Rattle.script_reader.proofs.Slots.{push_hit, push_miss}
-use Rattle.script_reader.proofs.Written.{IsWord, both, is_at_most, named_digits, decimal_writes}
+use Rattle.script_reader.proofs.Written.{IsWord, is_at_most, named_digits, decimal_writes}
 
 abbrev pub slot_name : ℕ → List ℕ
 slot_name i = codes "s" ++ decimal i
@@ -32,7 +32,7 @@ pub slot_is_name : (i : ℕ) → i < 10 ^ 7 → is_name (slot_name i) ≡ true
 unfolding is_name
 slot_is_name i h =
     let short : length (decimal i) ≤ 7 = length-decimal-le 7 i (omega arith) h (small i h) in
-    both _ _ (both _ _ (is_at_most 1 (length (slot_name i)) (omega arith)) (is_at_most (length (slot_name i)) 8 (omega (arith, short)))) (named_digits (decimal i) (decimal_is_IsNumeral i (small i h)).0.1)
+    and_from _ _ (and_from _ _ (is_at_most 1 (length (slot_name i)) (omega arith)) (is_at_most (length (slot_name i)) 8 (omega (arith, short)))) (named_digits (decimal i) (decimal_is_IsNumeral i (small i h)).0.1)
 
 -- ---- where the names stand
 
@@ -45,9 +45,6 @@ apart i k hi hk other = by (bytes_eq (slot_name i) (slot_name k)) refl
     by : (b : Bool) → bytes_eq (slot_name i) (slot_name k) ≡ b → b ≡ false
     by true e = absurd (other (decimal_injective i k (small i hi) (small k hk) (rest_of 115 (decimal i) (decimal k) ((bytes_eq-Decides (slot_name i) (slot_name k)).0 e))))
     by false e = refl
-
-same : (w : List ℕ) → bytes_eq w w ≡ true
-same w = (bytes_eq-Decides w w).1 refl
 
 -- a name that isn't given yet
 pub slot_absent : (k i : ℕ) → k ≤ i → i < 10 ^ 7 → slot_of (slot_names k) (slot_name i) ≡ None
@@ -62,7 +59,7 @@ slot_present (suc k) i below h =
       | inl before ↦ push_miss (bytes_eq (slot_name i)) (slot_names k) (slot_name k) (apart i k (omega (arith, before, h)) (omega (arith, h)) (λ e. omega (arith, e, before))) ∙ slot_present k i before (omega (arith, h))
       | inr after ↦
           let last : i ≡ k = omega (arith, below, after) in
-          push_hit (bytes_eq (slot_name i)) (slot_names k) (slot_name k) (slot_absent k i (omega (arith, last)) (omega (arith, last, h))) (ap (λ j. bytes_eq (slot_name i) (slot_name j)) (sym last) ∙ same (slot_name i))
+          push_hit (bytes_eq (slot_name i)) (slot_names k) (slot_name k) (slot_absent k i (omega (arith, last)) (omega (arith, last, h))) (ap (λ j. bytes_eq (slot_name i) (slot_name j)) (sym last) ∙ (bytes_eq-Decides (slot_name i) (slot_name i)).1 refl)
           ∙ ap Some (length_slot_names k ∙ sym last)
     ]
 

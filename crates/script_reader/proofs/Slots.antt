@@ -11,8 +11,8 @@ use Rattle.std.specs.List.{position_or_len}
 use Rattle.std.specs.Str.{bytes_eq}
 use Rattle.script_reader.specs.Names.{slot_of}
 
-false_is : (b : Bool) → b ≡ false → b ≡ true → ⊥
-false_is b f t = cc
+pub not_both : (b : Bool) → b ≡ true → b ≡ false → ⊥
+not_both b t f = cc
 
 first_hit : (a b n m : ℕ) → m ≡ n + 1 → a ≤ n → b ≡ cond (eqb a n) (n + 0) a → cond (nat_lt a n) (Some a) None ≡ None → cond (nat_lt b m) (Some b) None ≡ Some n
 first_hit a b n m e bound last none = grind (arith, nat_tests)
@@ -32,7 +32,7 @@ push_miss p xs y miss = first_miss (position_or_len p xs) (position_or_len p (xs
 other : (w q : List ℕ) → bytes_eq w q ≡ false → bytes_eq q w ≡ false
 other w q f =
     elim (cases_Bool (bytes_eq q w)) [
-      | inl t ↦ absurd (false_is (bytes_eq w q) f ((bytes_eq-Decides w q).1 (sym ((bytes_eq-Decides q w).0 t))))
+      | inl t ↦ absurd (not_both (bytes_eq w q) ((bytes_eq-Decides w q).1 (sym ((bytes_eq-Decides q w).0 t))) f)
       | inr m ↦ m
     ]
 

@@ -6,6 +6,7 @@ use Rattle.event_words.specs.declared.shape.Shape.{Shape}
 use Rattle.event_words.specs.declared.section.Command.{Command}
 use Rattle.event_words.specs.Valid.{IsValidShape}
 use Rattle.event_words.specs.Sections.{SectionOf, IsValidSection, AreValidCommands, IsValidCommand, NamesUnits, NamesOnlyUnits, is_submit}
+use Rattle.event_words.proofs.ListItems.{all_push}
 use Rattle.script_reader.specs.declared.reader.ScriptPart.{ScriptPart}
 use Rattle.script_reader.specs.declared.step.StepError.{StepError}
 use Rattle.script_reader.specs.Codes.{◌>>=◌, taken_name, not_a_name}
@@ -15,10 +16,6 @@ use Rattle.script_reader.specs.declared.reader.ScriptPart.TheVariants.{Head, Uni
 use Rattle.script_reader.specs.Lines.{State, OpenSection, new_section, no_commands, section_of, with_command, with_submission, closed, start, next_lane}
 use Rattle.script_reader.specs.Told.{IsToldWhole, TellsWhole}
 use Rattle.script_reader.specs.Sound.{IsSound, IsSoundSection, FitsPlace, IsInSection, MayFollow, IsGoodCommand}
-
-pub all_push : {A : Type 0} (P : A → Type 0) (xs : List A) (x : A) → AllByRecursion P xs → P x → AllByRecursion P (xs ++ x ∷ [])
-all_push P [] x all here = (here, tt)
-all_push P (y ∷ ys) x all here = (all.0, all_push P ys x all.1 here)
 
 -- ---- commands
 

@@ -1,6 +1,6 @@
 -- How long the parts of an update's input are, and in which lines they stand.
 use Rattle.std.proofs.Common.{◌≡◌, ℕ, ◌+◌, ◌≤◌, ◌==◌, ◌&&◌, not, Bool, true, false, List, [], ◌∷◌, ◌++◌, Ok, Err, Result, length, codes, if◌then◌else◌, refl, sym, ap, subst, ◌∙◌, ◌-◌, nat_le, slice_index, take, arith, length-append, sum_by}
-use Rattle.std.proofs.lemmas.Bool.{leb-true}
+use Rattle.std.proofs.lemmas.Bool.{leb-true, not-false, and_parts}
 use Rattle.std.proofs.lemmas.List.Sums.{sum_by-cons}
 use Rattle.std.proofs.lemmas.List.{length-take-le}
 use Rattle.std.proofs.lemmas.List.Splits.{slice_split-cons_yes, slice_split-cons_no, length-slice_split}
@@ -8,13 +8,13 @@ use Rattle.std.specs.Result.{IfOk}
 use Rattle.std.specs.List.{list_all, slice_split, onto_first}
 use Rattle.script_reader.specs.declared.update_text.ExpectedPart.{ExpectedPart}
 use Rattle.script_reader.specs.declared.update_text.ExpectedPart.TheVariants.{Old, New, Polls, Lanes, Nothing, Rest}
-use Rattle.script_reader.specs.Codes.{◌>>=◌}
 use Rattle.script_reader.specs.Text.{is_line_feed, is_plain, lines_of, words_of, without_last_line_feed}
 use Rattle.script_reader.specs.Numbers.{ranged, number_at}
 use Rattle.script_reader.specs.Words.{word_at}
 use Rattle.script_reader.specs.Lines.{is_skipped}
 use Rattle.script_reader.specs.UpdateSizes.{HasNoLanes, Fits, FitsState}
 use Rattle.script_reader.specs.UpdateTexts.{UpdateTextOf, UpdateState, is_heading, is_polls_heading, with_line, old_step, new_step, polls_step, lanes_step, nothing_step, rest_step, wanted_step, update_step, after_polls, update_start}
+use Rattle.script_reader.proofs.Writeless.{bound}
 
 -- with one line more
 abbrev Onward : ℕ → ℕ → List ℕ → UpdateState → Type 0
@@ -24,10 +24,6 @@ chosen : {A E : Type 0} (Q : A → Type 0) (b : Bool) (r t : Result A E) → (b 
 chosen Q true r t here there = here refl
 chosen Q false r t here there = there refl
 
-bound : {A B : Type 0} (P : A → Type 0) (Q : B → Type 0) (r : Result A ℕ) (f : A → Result B ℕ) → IfOk r P → ((x : A) → P x → IfOk (f x) Q) → IfOk (r >>= f) Q
-bound P Q (Ok x) f here next = next x here
-bound P Q (Err code) f here next = tt
-
 -- a line with words has a byte
 heading_long : (line name : List ℕ) → is_heading (words_of line) name ≡ true → 1 ≤ length line
 heading_long [] name h = absurd (let n : false ≡ true = h in cc)
@@ -36,10 +32,6 @@ heading_long (x ∷ xs) name h = omega arith
 polls_long : (line : List ℕ) → is_polls_heading (words_of line) ≡ true → 1 ≤ length line
 polls_long [] h = absurd (let n : false ≡ true = h in cc)
 polls_long (x ∷ xs) h = omega arith
-
-not_false : (b : Bool) → not b ≡ false → b ≡ true
-not_false true h = refl
-not_false false h = absurd (let n : true ≡ false = h in cc)
 
 old_fits : (t : UpdateTextOf) (size n : ℕ) (line : List ℕ) → Fits Old t size n → IfOk (old_step t line) (Onward size n line)
 unfolding old_step
@@ -57,19 +49,11 @@ ranged_within : (low high : ℕ) (word : List ℕ) → IfOk (ranged low high wor
 unfolding ranged
 ranged_within low high word =
     bound (λ n. Unit {0}) _ (number_at word) _ (any (number_at word)) (λ n _. chosen _ (nat_le low n && nat_le n high) _ _
-    (λ e. (leb-true low n (first (nat_le low n) (nat_le n high) e), leb-true n high (second (nat_le low n) (nat_le n high) e))) (λ _. tt))
+    (λ e. let both = and_parts (nat_le low n) (nat_le n high) e in (leb-true low n both.0, leb-true n high both.1)) (λ _. tt))
   where
     any : (r : Result ℕ ℕ) → IfOk r (λ n. Unit {0})
     any (Ok n) = tt
     any (Err c) = tt
-
-    first : (a b : Bool) → (a && b) ≡ true → a ≡ true
-    first true b e = refl
-    first false b e = e
-
-    second : (a b : Bool) → (a && b) ≡ true → b ≡ true
-    second true b e = e
-    second false b e = absurd (let n : false ≡ true = e in cc)
 
 polls_fits : (after : ExpectedPart) (lanes : Bool) (t : UpdateTextOf) (size n : ℕ) (line : List ℕ) → after ≡ after_polls lanes → Fits Polls t size n → IfOk (polls_step after t line) (Onward size n line)
 unfolding polls_step
@@ -78,7 +62,7 @@ polls_fits after lanes t size n line e h =
     (λ p. chosen (Onward size n line) (not (list_all is_plain line)) _ _ (λ _. tt)
     (λ _. bound (λ m. (1 ≤ m) × (m ≤ 4096)) (Onward size n line) (ranged 1 4096 (word_at (words_of line) 2)) _ (ranged_within 1 4096 (word_at (words_of line) 2))
     (λ m within. subst (λ w. Fits w (record t { polls = m }) (size + (length line + 1)) (n + 1)) (sym e)
-    (both lanes (record t { polls = m }) (size + (length line + 1)) (n + 1) (omega (arith, h.0, polls_long line (not_false _ p))) h.1 within))))
+    (both lanes (record t { polls = m }) (size + (length line + 1)) (n + 1) (omega (arith, h.0, polls_long line (not-false _ p))) h.1 within))))
   where
     both : (lanes : Bool) (t : UpdateTextOf) (size n : ℕ) → n + 2 ≤ size → HasNoLanes t → (1 ≤ t.polls) × (t.polls ≤ 4096) → Fits (after_polls lanes) t size n
     both true t size n h l p = (h, l, p)

@@ -1,5 +1,7 @@
 -- A line that is written of words is read as these words.
-use Rattle.std.proofs.Common.{◌≡◌, ℕ, ◌+◌, ◌≤◌, ◌==◌, ◌||◌, not, Bool, true, false, if◌then◌else◌, List, [], ◌∷◌, ◌++◌, Ok, Err, length, slice_index, refl, ap, sym, ◌∙◌, arith, append_assoc}
+use Rattle.std.proofs.Common.{◌≡◌, ℕ, ◌+◌, ◌≤◌, ◌==◌, not, Bool, true, false, if◌then◌else◌, List, [], ◌∷◌, ◌++◌, Ok, Err, length, slice_index, refl, ap, sym, ◌∙◌, arith, append_assoc}
+use Rattle.std.proofs.lemmas.Bool.{or_from, and_from, and_parts}
+use Rattle.std.proofs.lemmas.List.Folds.{list_all-append}
 use Rattle.std.proofs.lemmas.Bool.Decides.{nat_tests}
 use Rattle.std.specs.List.{list_all, AllByRecursion}
 use Rattle.script_reader.specs.Codes.{not_plain}
@@ -8,8 +10,8 @@ use Rattle.script_reader.specs.Words.{word_at}
 use Rattle.script_reader.specs.declared.reader.LinesOf.TheVariants.{Script}
 use Rattle.script_reader.specs.Lines.{State, is_skipped, place_step, words_step, line_step}
 use Rattle.script_reader.specs.Scripts.{at_line, lines_from}
-use Rattle.script_reader.proofs.Parts.{and_left, and_right, lines_of_line, words_of_word, words_of_last}
-use Rattle.script_reader.proofs.Written.{is_solid, IsWord, both, differs}
+use Rattle.script_reader.proofs.Parts.{lines_of_line, words_of_word, words_of_last}
+use Rattle.script_reader.proofs.Written.{is_solid, IsWord, differs}
 
 -- words with one space between them, a line feed, and then more text
 abbrev pub ended : List (List ℕ) → List ℕ → List ℕ
@@ -43,17 +45,13 @@ solid_stays b h = grind (arith, nat_tests)
 
 every : (p : ℕ → Bool) (w : List ℕ) → ((b : ℕ) → is_solid b ≡ true → p b ≡ true) → list_all is_solid w ≡ true → list_all p w ≡ true
 every p [] implies h = refl
-every p (b ∷ bs) implies h = both _ _ (implies b (and_left (is_solid b) _ h)) (every p bs implies (and_right (is_solid b) _ h))
-
-every_more : (p : ℕ → Bool) (xs ys : List ℕ) → list_all p xs ≡ true → list_all p ys ≡ true → list_all p (xs ++ ys) ≡ true
-every_more p [] ys h k = k
-every_more p (x ∷ xs) ys h k = both _ _ (and_left (p x) _ h) (every_more p xs ys (and_right (p x) _ h) k)
+every p (b ∷ bs) implies h = and_from _ _ (implies b (and_parts (is_solid b) _ h).0) (every p bs implies (and_parts (is_solid b) _ h).1)
 
 every_joined : (p : ℕ → Bool) (ws : List (List ℕ)) → ((b : ℕ) → is_solid b ≡ true → p b ≡ true) → p 32 ≡ true → AreWords ws → list_all p (joined ws) ≡ true
 every_joined p [] implies space words = refl
 every_joined p (w ∷ []) implies space words = every p w implies words.0.solid
 every_joined p (w ∷ (v ∷ ws)) implies space words =
-    every_more p w (32 ∷ joined (v ∷ ws)) (every p w implies words.0.solid) (both _ _ space (every_joined p (v ∷ ws) implies space words.1))
+    list_all-append p w (32 ∷ joined (v ∷ ws)) ∙ and_from _ _ (every p w implies words.0.solid) (and_from _ _ space (every_joined p (v ∷ ws) implies space words.1))
 
 words_of_joined : (ws : List (List ℕ)) → AreWords ws → words_of (joined ws) ≡ ws
 words_of_joined [] words = refl
@@ -71,13 +69,9 @@ unfolding line_step
 line_read s ws words =
     ap (λ b. if b then words_step s (words_of (joined ws)) else Err not_plain) (every_joined is_plain ws solid_plain refl words) ∙ ap (words_step s) (words_of_joined ws words)
 
-either : (a b : Bool) → a ≡ false → b ≡ false → (a || b) ≡ false
-either true b h k = h
-either false b h k = k
-
 -- a line with a word that begins with another byte than `#`
 pub stands : (ws : List (List ℕ)) → 1 ≤ length ws → (slice_index (word_at ws 0) 0 == 35) ≡ false → is_skipped ws ≡ false
-stands ws some first = either _ _ (differs (length ws) 0 (λ e. omega (arith, some, e))) first
+stands ws some first = or_from _ _ (differs (length ws) 0 (λ e. omega (arith, some, e))) first
 
 words_read : (s : State) (ws : List (List ℕ)) → is_skipped ws ≡ false → words_step s ws ≡ place_step s.place s ws
 unfolding words_step

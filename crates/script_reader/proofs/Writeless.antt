@@ -4,6 +4,7 @@ use Rattle.std.specs.Result.{IfOk}
 use Rattle.std.specs.List.{list_all}
 use Rattle.event_words.specs.declared.section.Command.{Command}
 use Rattle.event_words.specs.Sections.{IsNoRegisterWrite, HasNoRegisterWrites}
+use Rattle.event_words.proofs.ListItems.{all_push}
 use Rattle.script_reader.specs.declared.reader.ScriptPart.{ScriptPart}
 use Rattle.script_reader.specs.declared.reader.ScriptPart.TheVariants.{Head, Units, Boot, Lane, Finished}
 use Rattle.script_reader.specs.Codes.{◌>>=◌}
@@ -15,11 +16,10 @@ use Rattle.script_reader.specs.Commands.{unit_at, index_at, value_at, max_at, ac
 use Rattle.script_reader.specs.declared.reader.LinesOf.TheVariants.{Lanes}
 use Rattle.script_reader.specs.Lines.{State, OpenSection, is_skipped, is_other, next_lane, closed, with_submission, end_step, lane_step, submit_step, command_step, section_step, place_step, lanes_words_step, line_step}
 use Rattle.script_reader.specs.LiveLanes.{IsOpen, IsLiveState, lanes_start}
-use Rattle.script_reader.proofs.Sounds.{all_push}
 
 -- ---- checks one after another
 
-bound : {A B : Type 0} (P : A → Type 0) (Q : B → Type 0) (r : Result A ℕ) (f : A → Result B ℕ) → IfOk r P → ((x : A) → P x → IfOk (f x) Q) → IfOk (r >>= f) Q
+pub bound : {A B : Type 0} (P : A → Type 0) (Q : B → Type 0) (r : Result A ℕ) (f : A → Result B ℕ) → IfOk r P → ((x : A) → P x → IfOk (f x) Q) → IfOk (r >>= f) Q
 bound P Q (Ok x) f here next = next x here
 bound P Q (Err code) f here next = tt
 

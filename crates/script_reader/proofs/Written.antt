@@ -1,6 +1,6 @@
 -- Numbers that are written in digits are read back.
 use Rattle.std.proofs.Common.{◌≡◌, ℕ, ◌+◌, ◌*◌, ◌^◌, ◌<◌, ◌≤◌, ◌==◌, ◌&&◌, nat_le, nat_lt, Bool, true, false, if◌then◌else◌, List, [], ◌∷◌, None, Some, Ok, Err, length, drop, refl, ap, ◌∙◌, inl, inr, arith}
-use Rattle.std.proofs.lemmas.Bool.{cases_lt, leb-true}
+use Rattle.std.proofs.lemmas.Bool.{cases_lt, leb-true, and_from, and_parts, and_right}
 use Rattle.std.proofs.lemmas.Bool.Decides.{nat_tests}
 use Rattle.std.proofs.lemmas.Fmt.{decimal_is_IsNumeral, digits_is_IsNumeral, length-decimal-le}
 use Rattle.std.proofs.lemmas.Str.Parse.{digit_from_value}
@@ -14,7 +14,6 @@ use Rattle.event_words.proofs.HexDigits.{length_hex}
 use Rattle.script_reader.specs.Codes.{◌>>=◌, out_of_range}
 use Rattle.script_reader.specs.Names.{is_letter_or_digit}
 use Rattle.script_reader.specs.Numbers.{digit_of, numeral_after, numeral_of, number_of, number_at, fitting, ranged, begins_hex}
-use Rattle.script_reader.proofs.Parts.{and_left, and_right}
 use Rattle.script_reader.proofs.Numerals.{numeral_of_is}
 
 -- a byte of a word
@@ -27,7 +26,7 @@ pub record IsWord (w : List ℕ) : Type 0 where
 
 -- a word that stands in the text as it is here
 pub fixed : (w : List ℕ) → (nat_le 1 (length w) && list_all is_solid w) ≡ true → IsWord w
-fixed w e = record { some = leb-true 1 (length w) (and_left (nat_le 1 (length w)) _ e); solid = and_right (nat_le 1 (length w)) _ e }
+fixed w e = record { some = leb-true 1 (length w) (and_parts (nat_le 1 (length w)) _ e).0; solid = (and_parts (nat_le 1 (length w)) _ e).1 }
 
 -- ---- tests
 
@@ -36,14 +35,6 @@ is_less a b h = grind (arith, nat_tests)
 
 pub is_at_most : (a b : ℕ) → a ≤ b → nat_le a b ≡ true
 is_at_most a b h = grind (arith, nat_tests)
-
-pub both : (a b : Bool) → a ≡ true → b ≡ true → (a && b) ≡ true
-both true b h k = k
-both false b h k = h
-
-neither : (a b : Bool) → b ≡ false → (a && b) ≡ false
-neither true b h = h
-neither false b h = refl
 
 pub differs : (a b : ℕ) → (a ≡ b → ⊥) → (a == b) ≡ false
 differs a b h = grind (arith, nat_tests)
@@ -57,7 +48,7 @@ no_high_digit : (c : ℕ) → 123 ≤ c → digit_value c ≡ 36
 no_high_digit c h = grind (arith, nat_tests)
 
 solid_between : (c : ℕ) → 48 ≤ c → c < 123 → is_solid c ≡ true
-solid_between c low high = both _ _ (is_at_most 33 c (omega arith)) (is_at_most c 126 (omega arith))
+solid_between c low high = and_from _ _ (is_at_most 33 c (omega arith)) (is_at_most c 126 (omega arith))
 
 solid_digit : (c : ℕ) → digit_value c < 36 → is_solid c ≡ true
 solid_digit c h =
@@ -71,14 +62,14 @@ solid_digit c h =
 
 solid_digits : (base : ℕ) (ds : List ℕ) → base ≤ 36 → AllDigits base ds → list_all is_solid ds ≡ true
 solid_digits base [] low h = refl
-solid_digits base (c ∷ cs) low h = both _ _ (solid_digit c (omega (arith, low, h.0))) (solid_digits base cs low h.1)
+solid_digits base (c ∷ cs) low h = and_from _ _ (solid_digit c (omega (arith, low, h.0))) (solid_digits base cs low h.1)
 
 named_digit : (c : ℕ) → digit_value c < 10 → is_letter_or_digit c ≡ true
 named_digit c h = let range = digit_from_value c h in grind (arith, nat_tests)
 
 pub named_digits : (ds : List ℕ) → AllDigits 10 ds → list_all is_letter_or_digit ds ≡ true
 named_digits [] h = refl
-named_digits (c ∷ cs) h = both _ _ (named_digit c h.0) (named_digits cs h.1)
+named_digits (c ∷ cs) h = and_from _ _ (named_digit c h.0) (named_digits cs h.1)
 
 digit_is : (base c : ℕ) → digit_value c < base → digit_of base c ≡ Some (digit_value c)
 unfolding digit_of
@@ -96,7 +87,7 @@ not_x c h = let range = digit_from_value c h in differs c 120 (λ e. omega (arit
 no_hex : (ds : List ℕ) → AllDigits 10 ds → begins_hex ds ≡ false
 no_hex [] h = refl
 no_hex (x ∷ []) h = refl
-no_hex (x ∷ (y ∷ ys)) h = neither (nat_le 2 (length (x ∷ (y ∷ ys)))) _ (neither (x == 48) (y == 120) (not_x y h.1.0))
+no_hex (x ∷ (y ∷ ys)) h = and_right (nat_le 2 (length (x ∷ (y ∷ ys)))) _ (and_right (x == 48) (y == 120) (not_x y h.1.0))
 
 pub decimal_read : (n : ℕ) → n < 2 ^ 64 → number_of (decimal n) ≡ Some n
 unfolding number_of
@@ -142,4 +133,4 @@ pub ranged_is : (low high : ℕ) (w : List ℕ) (n : ℕ) → Writes w n → low
 unfolding ranged
 ranged_is low high w n writes above below =
     ap (λ r. r >>= λ m. if nat_le low m && nat_le m high then Ok m else Err out_of_range) writes.number
-    ∙ ap (λ b. if b then Ok n else Err out_of_range) (both _ _ (is_at_most low n above) (is_at_most n high below))
+    ∙ ap (λ b. if b then Ok n else Err out_of_range) (and_from _ _ (is_at_most low n above) (is_at_most n high below))

@@ -49,6 +49,10 @@ abbrev pub most_from : ℕ → List SectionOf → ℕ
 most_from n [] = n
 most_from n (section ∷ sections) = most_from (max n (most_section_events section)) sections
 
+-- The section makes at most so many events.
+abbrev pub HasAtMost : ℕ → SectionOf → Type 0
+HasAtMost most section = most_section_events section ≤ most
+
 -- The most events of one section, at least 1, for the boot section and for each lane.
 abbrev pub need_of : ScriptOf → ℕ
 need_of script = (length script.lanes + 1) * most_from (max 1 (most_section_events script.boot)) script.lanes

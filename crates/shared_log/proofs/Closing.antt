@@ -1,5 +1,6 @@
 -- What is known once only the first caller is left.
-use Rattle.std.proofs.Common.{◌≡◌, ℕ, zero, suc, ◌+◌, ◌<◌, ◌≤◌, true, List, [], ◌∷◌, ◌++◌, length, get_or, map, refl, sym, ap, ◌∙◌, subst, arith, append-nil}
+use Rattle.std.proofs.Common.{◌≡◌, ℕ, zero, suc, ◌+◌, ◌<◌, ◌≤◌, true, List, [], ◌∷◌, ◌++◌, length, get_or, refl, sym, ap, ◌∙◌, subst, arith, append-nil}
+use Rattle.std.proofs.Math.Seq.{get_or-append_seam}
 use mathlib.Core.Option.{some}
 use lib.ListN.{get_elem?}
 use Rattle.shared_log.specs.declared.seat_view.SeatView.{SeatView}
@@ -8,7 +9,6 @@ use Rattle.shared_log.specs.Rule.{IsSharedLog}
 use Rattle.shared_log.specs.Callers.{CallerView, KeepsBudget}
 use Rattle.shared_log.specs.Histories.{HoldsCaller}
 use Rattle.shared_log.proofs.WordLists.{words-append}
-use Rattle.std.specs.List.{AllByRecursion}
 use Rattle.shared_log.proofs.Gathers.{words_before_zero-log}
 
 pub record Finished (result : List ℕ) (v : SeatView) : Type 0 where
@@ -29,35 +29,14 @@ finishes C B words views r id v at live is_first ws result same is =
       others = λ c h. (r.unmade c (let m = (q.first is_first).0 in omega arith)).0;
     }
 
-at-behind : {A : Type 0} (xs ys : List A) (x d : A) → get_or (xs ++ x ∷ ys) (length xs) d ≡ x
-at-behind [] ys x d = refl
-at-behind (y ∷ xs) ys x d = at-behind xs ys x d
-
 -- the item of a list behind others
 pub item-behind : {A : Type 0} (xs ys : List A) (x : A) (all : List A) (d : A) → xs ++ x ∷ ys ≡ all → get_or all (length xs) d ≡ x
-item-behind xs ys x all d e = ap (λ l. get_or l (length xs) d) (sym e) ∙ at-behind xs ys x d
-
-pub nothing_left : {A : Type 0} (l : List A) → length l ≡ 0 → l ≡ []
-nothing_left [] h = refl
-nothing_left (x ∷ xs) h = absurd (omega arith)
+item-behind xs ys x all d e = ap (λ l. get_or l (length xs) d) (sym e) ∙ get_or-append_seam xs x ys d
 
 pub at-item : {A : Type 0} (l : List A) (n : ℕ) (d : A) → n < length l → get_elem? l n ≡ some (get_or l n d)
 at-item [] n d h = absurd (omega arith)
 at-item (x ∷ xs) zero d h = refl
 at-item (x ∷ xs) (suc n) d h = at-item xs n d (omega arith)
-
-pub mapped-length : {A X : Type 0} (f : A → X) (l : List A) → length (map f l) ≡ length l
-mapped-length f [] = refl
-mapped-length f (x ∷ xs) = ap suc (mapped-length f xs)
-
-pub all-at : {A : Type 0} (P : A → Type 0) (l : List A) (n : ℕ) (d : A) → n < length l → AllByRecursion P l → P (get_or l n d)
-all-at P [] n d h all = absurd (omega arith)
-all-at P (x ∷ xs) zero d h all = all.0
-all-at P (x ∷ xs) (suc n) d h all = all-at P xs n d (omega arith) all.1
-
-pub all-snoc : {A : Type 0} (P : A → Type 0) (l : List A) (x : A) → AllByRecursion P l → P x → AllByRecursion P (l ++ x ∷ [])
-all-snoc P [] x all p = (p, tt)
-all-snoc P (y ∷ ys) x all p = (all.0, all-snoc P ys x all.1 p)
 
 -- the own words of a list that begins with a log and has no own word after it
 pub own_words : (c : ℕ) (words log : List ℕ) → BeginsWithLog c words log → words_by c words ≡ words_by c log

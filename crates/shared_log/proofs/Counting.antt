@@ -48,11 +48,11 @@ words-other c w ws not = ap (λ (t : Bool). cond t (w ∷ words_by c ws) (words_
 abbrev counts : List ℕ → ℕ → ℕ
 counts ws c = length (words_by c ws)
 
-below : (n w : ℕ) (ws : List ℕ) → ((c : ℕ) → n ≤ c → words_by c (w ∷ ws) ≡ []) → Dec (n ≤ caller_of_word w) → caller_of_word w < n
+pub below : (n w : ℕ) (ws : List ℕ) → ((c : ℕ) → n ≤ c → words_by c (w ∷ ws) ≡ []) → Dec (n ≤ caller_of_word w) → caller_of_word w < n
 below n w ws none (yes h) = let e : w ∷ words_by (caller_of_word w) ws ≡ [] = sym (words-own (caller_of_word w) w ws refl) ∙ none (caller_of_word w) h in cc
 below n w ws none (no h) = lt_of_not-le h
 
-tail_none : (n w : ℕ) (ws : List ℕ) → caller_of_word w < n → ((c : ℕ) → n ≤ c → words_by c (w ∷ ws) ≡ []) → (c : ℕ) → n ≤ c → words_by c ws ≡ []
+pub tail_none : (n w : ℕ) (ws : List ℕ) → caller_of_word w < n → ((c : ℕ) → n ≤ c → words_by c (w ∷ ws) ≡ []) → (c : ℕ) → n ≤ c → words_by c ws ≡ []
 tail_none n w ws lt none c h = sym (words-other c w ws (λ e. omega arith)) ∙ none c h
 
 -- where no other number is borne, all words are those of 0

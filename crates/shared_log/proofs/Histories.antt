@@ -1,6 +1,7 @@
 -- For the crates above: a caller's own events, with their places and replies, through calls and in a
 -- closed history.
-use Rattle.std.proofs.Common.{◌≡◌, ℕ, List, [], ◌∷◌, ◌++◌, length, sym, refl, ap, ◌∙◌, arith}
+use Rattle.std.proofs.Common.{◌≡◌, ℕ, List, [], ◌∷◌, ◌++◌, length, sym, ap, ◌∙◌, arith}
+use Rattle.std.proofs.lemmas.List.{nil_from_length}
 use Rattle.event_words.specs.declared.event.Event.{Event}
 use Rattle.event_words.specs.declared.reply.Reply.{Reply}
 use Rattle.event_words.specs.declared.record.LoggedEvent.{LoggedEvent}
@@ -42,7 +43,4 @@ module _ {M S : Type 0} (after : S → ℕ → ℕ → S) (reply : S → ℕ →
 
   -- A caller that made no event yet has none in its log.
   pub own_events-at-first : (c : CallerView M S) → KeepsBudget c → c.left ≡ c.budget → own_events after reply c ≡ []
-  own_events-at-first c budget left = events-of-others after reply c.number 0 c.first c.log (none (words_by c.number c.log) (omega arith)) where
-    none : (words : List ℕ) → length words ≡ 0 → words ≡ []
-    none [] h = refl
-    none (w ∷ ws) h = absurd (omega arith)
+  own_events-at-first c budget left = events-of-others after reply c.number 0 c.first c.log (nil_from_length (words_by c.number c.log) (omega arith))

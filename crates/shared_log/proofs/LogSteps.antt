@@ -1,5 +1,7 @@
 -- Each step keeps the rule.
 use Rattle.std.proofs.Common.{◌≡◌, ◌≢◌, ℕ, zero, suc, ◌+◌, ◌*◌, ◌<◌, ◌≤◌, true, List, [], ◌∷◌, ◌++◌, length, get_or, set, refl, sym, ap, ◌∙◌, subst, arith, cond, Bool, ⊎_elim, eqb, eq-eqb, ne_eqb, append_assoc}
+use Rattle.std.proofs.Math.ListN.{get_or-append}
+use Rattle.std.proofs.lemmas.List.{set-get_or}
 use Rattle.std.specs.Prelude.{replicate}
 use mathlib.Core.Option.{some, none, some-ne-none}
 use lib.ListN.{get_elem?}
@@ -9,11 +11,12 @@ use Rattle.atomic_table.proofs.Lists.{set_here, set_again}
 use Rattle.shared_log.specs.declared.seat_view.SeatView.{SeatView}
 use Rattle.event_words.specs.Runs.{caller_of_word, IsEventWord}
 use Rattle.event_words.proofs.Runs.{word-nonzero}
+use Rattle.event_words.proofs.ListItems.{all_after}
 use Rattle.shared_log.specs.Words.{words_by, AllEventWords}
 use Rattle.shared_log.specs.SeatViews.{with_word, with_caller, new_caller, with_joined_log, spent_view, opening_view}
 use Rattle.shared_log.specs.Rule.{IsCallerSeat, IsSharedLog}
 use Rattle.shared_log.specs.Exchanges.{AfterExchange}
-use Rattle.shared_log.proofs.WordLists.{at_end, at-below, get-behind, get-front, set-same, AllEventWords-right}
+use Rattle.shared_log.proofs.WordLists.{at_end, at-below, get-behind}
 use Rattle.shared_log.proofs.RuleKept.{view_kept, won, lost, not_own, split_kept, join_kept}
 
 abbrev St : Type 0
@@ -63,14 +66,14 @@ module _ (C B : ℕ) where
     exchange_by s r at q (x ∷ xs) more =
         let F : ℕ = get_or s.words place 0 in
         let found : F ≡ x = next-word s r id me.0 q ∙ ap (λ (l : List ℕ). get_or (l ++ replicate r.empty_words 0) 0 0) more in
-        let is_word : AllEventWords (x ∷ xs) = subst (AllEventWords) more (AllEventWords-right me.0.log q.has.rest (subst (AllEventWords) q.has.begins r.events)) in
+        let is_word : AllEventWords (x ∷ xs) = subst (AllEventWords) more (all_after IsEventWord me.0.log q.has.rest (subst (AllEventWords) q.has.begins r.events)) in
         let full : F ≢ zero = λ e. word-nonzero x is_word.0 (sym found ∙ e) in
         let kept : IsSharedLog C B s.words (set s.views id (with_word me.0 x)) = lost C B s.words s.views r id me.0 at q x xs more in (
           with_word me.0 x,
           keeps,
           tt,
           subst (λ (t : Bool). IsSharedLog C B (set s.words place (either t word F)) (set s.views id (with_word me.0 x))) (sym (ne_eqb F 0 full))
-              (subst (λ (l : List ℕ). IsSharedLog C B l (set s.views id (with_word me.0 x))) (sym (set-same s.words place)) kept),
+              (subst (λ (l : List ℕ). IsSharedLog C B l (set s.views id (with_word me.0 x))) (sym (set-get_or s.words place 0)) kept),
           (
             refl,
             record {
@@ -90,8 +93,8 @@ module _ (C B : ℕ) where
         me.0,
         keeps,
         tt,
-        subst (λ (l : List ℕ). IsSharedLog C B l (set s.views id me.0)) (sym (set-same s.words i)) (subst (IsSharedLog C B s.words) (sym (set_again s.views id me.0 at)) r),
-        (refl, ap (λ (l : List ℕ). get_or l i 0) (r.words_are ∙ ap (λ (l : List ℕ). l ++ replicate r.empty_words 0) q.has.begins ∙ append_assoc me.0.log q.has.rest (replicate r.empty_words 0)) ∙ get-front me.0.log (q.has.rest ++ replicate r.empty_words 0) i below),
+        subst (λ (l : List ℕ). IsSharedLog C B l (set s.views id me.0)) (sym (set-get_or s.words i 0)) (subst (IsSharedLog C B s.words) (sym (set_again s.views id me.0 at)) r),
+        (refl, ap (λ (l : List ℕ). get_or l i 0) (r.words_are ∙ ap (λ (l : List ℕ). l ++ replicate r.empty_words 0) q.has.begins ∙ append_assoc me.0.log q.has.rest (replicate r.empty_words 0)) ∙ get_or-append me.0.log (q.has.rest ++ replicate r.empty_words 0) 0 i below),
       )
 
   pub split_allowed : (id : ℕ) (v : SeatView) → v.live ≡ true → v.number ≡ 0 → v.made < C → Splits Holds id v (with_caller v) (new_caller v)

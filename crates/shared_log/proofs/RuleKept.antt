@@ -1,5 +1,6 @@
 -- An exchange keeps the rule.
 use Rattle.std.proofs.Common.{◌≡◌, ◌≢◌, ℕ, suc, ◌+◌, ◌*◌, ◌-◌, ◌<◌, ◌≤◌, ⊎_elim, true, false, Bool, List, [], ◌∷◌, ◌++◌, length, set, refl, sym, ap, ◌∙◌, subst, eqb, eq-eqb, ne_eqb, arith, length-append, append_assoc, append-nil, lt_of_not-le, cond}
+use Rattle.std.proofs.Math.Seq.{set-append_seam}
 use Rattle.std.specs.Prelude.{replicate}
 use mathlib.Core.Logic.{dite}
 use mathlib.Core.Option.{Option, none, some, some-injective, some-ne-none}
@@ -8,11 +9,12 @@ use lib.ListN.{get_elem?}
 use Rattle.atomic_table.proofs.Lists.{at_set, set_here, set_else, at_longer}
 use Rattle.shared_log.specs.declared.seat_view.SeatView.{SeatView}
 use Rattle.event_words.specs.Runs.{caller_of_word, IsEventWord}
+use Rattle.event_words.proofs.ListItems.{all_push}
 use Rattle.shared_log.specs.Words.{words_by, AllEventWords, BeginsWithLog}
 use Rattle.shared_log.specs.SeatViews.{IsSeatView, with_word, with_caller, new_caller, with_joined_log, spent_view}
 use Rattle.shared_log.specs.Rule.{IsCallerSeat, HasLiveFirst, IsSharedLog}
 use Rattle.shared_log.proofs.Counting.{words-own, below_all}
-use Rattle.shared_log.proofs.WordLists.{at_end, at-below, set-behind, append-none-right, AllEventWords-append, AllEventWords-left, words-append, words-prefix-none, words-prefix-length, words-snoc-other, words-snoc-length}
+use Rattle.shared_log.proofs.WordLists.{at_end, at-below, append-none-right, AllEventWords-left, words-append, words-prefix-none, words-prefix-length, words-snoc-other, words-snoc-length}
 
 -- the first caller stays live when the view of one seat changes, if it does in that view
 first_kept : (views : List SeatView) (i : ℕ) (v w : SeatView) → get_elem? views i ≡ some v → (v.live ≡ true → v.number ≡ 0 → (w.live ≡ true) × (w.number ≡ 0)) → HasLiveFirst views → HasLiveFirst (set views i w)
@@ -111,9 +113,9 @@ module _ (C B : ℕ) where
         made = r.made;
         joined = r.joined;
         first = first_kept views id v (with_word v w) at (λ l z. (l, z)) r.first;
-        words_are = ap (λ (l : List ℕ). set l (length v.log) w) laid ∙ set-behind v.log 0 w (replicate f 0) ∙ sym (append_assoc v.log (w ∷ []) (replicate f 0)) ∙ ap (λ (l : List ℕ). (l ++ w ∷ []) ++ replicate f 0) (sym same);
+        words_are = ap (λ (l : List ℕ). set l (length v.log) w) laid ∙ set-append_seam v.log 0 (replicate f 0) w ∙ sym (append_assoc v.log (w ∷ []) (replicate f 0)) ∙ ap (λ (l : List ℕ). (l ++ w ∷ []) ++ replicate f 0) (sym same);
         word_count = let t = r.word_count in omega (arith, length-append r.log (w ∷ []));
-        events = AllEventWords-append r.log (w ∷ []) r.events (event, tt);
+        events = all_push IsEventWord r.log w r.events event;
         few = r.few;
         within = λ c. dite (ℕ_discrete (caller_of_word w) c)
             (λ is. let m : length (words_by c r.log) < B = subst (λ (z : ℕ). length (words_by z r.log) < B) (sym mine ∙ is) fewer in let k = words-snoc-length c r.log w in omega arith)

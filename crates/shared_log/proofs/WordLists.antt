@@ -1,5 +1,5 @@
 -- Lists of words.
-use Rattle.std.proofs.Common.{◌≡◌, ◌≢◌, ℕ, zero, suc, ◌+◌, ◌<◌, ◌≤◌, ◌⊎◌, ⊎_elim, inl, inr, eqb, List, [], ◌∷◌, ◌++◌, length, get_or, set, refl, sym, ap, ◌∙◌, arith, length-append, append-nil}
+use Rattle.std.proofs.Common.{◌≡◌, ◌≢◌, ℕ, zero, suc, ◌+◌, ◌<◌, ◌≤◌, ◌⊎◌, ⊎_elim, inl, inr, eqb, List, [], ◌∷◌, ◌++◌, length, get_or, refl, sym, ap, ◌∙◌, arith, length-append, append-nil}
 use Rattle.std.proofs.lemmas.List.Elements.{filter-append}
 use Rattle.event_words.specs.Runs.{caller_of_word}
 use Rattle.shared_log.specs.Words.{words_by, AllEventWords}
@@ -13,15 +13,6 @@ pub get-behind : (xs ys : List ℕ) → get_or (xs ++ ys) (length xs) 0 ≡ get_
 get-behind [] ys = refl
 get-behind (x ∷ xs) ys = get-behind xs ys
 
-pub set-behind : (xs : List ℕ) (y z : ℕ) (ys : List ℕ) → set (xs ++ y ∷ ys) (length xs) z ≡ xs ++ z ∷ ys
-set-behind [] y z ys = refl
-set-behind (x ∷ xs) y z ys = ap (λ (l : List ℕ). x ∷ l) (set-behind xs y z ys)
-
-pub set-same : (xs : List ℕ) (i : ℕ) → set xs i (get_or xs i 0) ≡ xs
-set-same [] i = refl
-set-same (x ∷ xs) zero = refl
-set-same (x ∷ xs) (suc i) = ap (λ (l : List ℕ). x ∷ l) (set-same xs i)
-
 pub append-none-left : (xs ys : List ℕ) → xs ++ ys ≡ [] → xs ≡ []
 append-none-left [] ys e = refl
 append-none-left (x ∷ xs) ys e = cc
@@ -29,11 +20,6 @@ append-none-left (x ∷ xs) ys e = cc
 pub append-none-right : (xs ys : List ℕ) → xs ++ ys ≡ [] → ys ≡ []
 append-none-right [] ys e = e
 append-none-right (x ∷ xs) ys e = cc
-
-pub get-front : (xs ys : List ℕ) (i : ℕ) → i < length xs → get_or (xs ++ ys) i 0 ≡ get_or xs i 0
-get-front [] ys i h = absurd (omega arith)
-get-front (x ∷ xs) ys zero h = refl
-get-front (x ∷ xs) ys (suc i) h = get-front xs ys i (omega arith)
 
 pub at-below : {A : Type 0} (l : List A) (i : ℕ) (a : A) → get_elem? l i ≡ some a → i < length l
 at-below [] i a e = absurd (some-ne-none a (sym e))
@@ -46,17 +32,9 @@ at_end [] a b (suc j) e = absurd (some-ne-none b (sym e))
 at_end (x ∷ xs) a b zero e = inl e
 at_end (x ∷ xs) a b (suc j) e = ⊎_elim (λ t. inl t) (λ t. inr (ap suc t.0, t.1)) (at_end xs a b j e)
 
-pub AllEventWords-append : (xs ys : List ℕ) → AllEventWords xs → AllEventWords ys → AllEventWords (xs ++ ys)
-AllEventWords-append [] ys p q = q
-AllEventWords-append (x ∷ xs) ys p q = (p.0, AllEventWords-append xs ys p.1 q)
-
 pub AllEventWords-left : (xs ys : List ℕ) → AllEventWords (xs ++ ys) → AllEventWords xs
 AllEventWords-left [] ys p = tt
 AllEventWords-left (x ∷ xs) ys p = (p.0, AllEventWords-left xs ys p.1)
-
-pub AllEventWords-right : (xs ys : List ℕ) → AllEventWords (xs ++ ys) → AllEventWords ys
-AllEventWords-right [] ys p = p
-AllEventWords-right (x ∷ xs) ys p = AllEventWords-right xs ys p.1
 
 pub words-append : (c : ℕ) (xs ys : List ℕ) → words_by c (xs ++ ys) ≡ words_by c xs ++ words_by c ys
 words-append c xs ys = filter-append (λ w. eqb (caller_of_word w) c) xs ys

@@ -1,8 +1,10 @@
 -- How many requesters are stalled with something in flight, as one of them changes.
 use Rattle.std.proofs.Common.{◌≡◌, ◌≢◌, ℕ, suc, zero, ◌+◌, ◌<◌, ◌≤◌, Bool, true, false, not, ◌&&◌, ◌||◌, ◌==◌, ◌/◌, ◌%◌, ◌^◌, replicate, List, [], ◌∷◌, length, ◌++◌, count_by, set, take, arith, refl, sym, ap, ◌∙◌, subst, inl, inr, get_or-set_other, length-set}
 use Rattle.std.specs.List.{range_with_len, list_any}
-use Rattle.std.proofs.lemmas.List.{take-replicate, length-take-le}
-use Rattle.std.proofs.lemmas.List.Sums.{sum_by-cons}
+use Rattle.std.proofs.Math.Seq.{take-append_seam}
+use Rattle.std.proofs.lemmas.List.{take-replicate, length-take-le, set_past}
+use Rattle.std.proofs.lemmas.List.FromFn.{length-range_with_len}
+use Rattle.std.proofs.lemmas.List.Sums.{sum_by-cons, count_by-le-length}
 use Rattle.std.proofs.lemmas.Bool.Decides.{eqb_tells}
 use Rattle.event_words.specs.Stalls.{flag_of, flags_after_rridscp}
 use Rattle.event_words.proofs.Cases.{by_test, by_less}
@@ -39,10 +41,7 @@ count_change p q r a (suc n) e l h =
     ]
 
 count_small : (p : ℕ → Bool) (a n : ℕ) → count_by p (range_with_len a n) ≤ n
-count_small p a zero = let z : count_by p [] ≡ 0 = refl in omega arith
-count_small p a (suc n) = by_test (p a) _
-    (λ t. let c = count_cons p a (range_with_len (a + 1) n) in let i = count_small p (a + 1) n in let k : one (p a) ≡ 1 = ap (λ b. one b) t in omega arith)
-    (λ t. let c = count_cons p a (range_with_len (a + 1) n) in let i = count_small p (a + 1) n in let k : one (p a) ≡ 0 = ap (λ b. one b) t in omega arith)
+count_small p a n = omega (arith, count_by-le-length p (range_with_len a n), length-range_with_len a n)
 
 pub busy_small : (flags : List Bool) (counts : List ℕ) → busy_count flags counts ≤ length flags
 busy_small flags counts = count_small (is_busy_at flags counts) 0 (length flags)
@@ -53,11 +52,6 @@ count_change_in flags counts counts' r l e =
     count_change (is_busy_at flags counts) (is_busy_at flags counts') r 0 (length flags) (λ m n. ap (λ k. flag_of flags m && not (k == 0)) (e m n)) (omega arith) (omega arith)
 
 -- ---- a count changes
-
-set_past : {X : Type 0} (xs : List X) (r : ℕ) (x : X) → length xs ≤ r → set xs r x ≡ xs
-set_past [] r x l = refl
-set_past (y ∷ ys) zero x l = absurd (omega arith)
-set_past (y ∷ ys) (suc r) x l = ap (λ l. y ∷ l) (set_past ys r x (omega arith))
 
 pub count_put : (flags : List Bool) (counts counts' : List ℕ) (r k : ℕ) → length flags ≡ length counts → counts' ≡ set counts r k
     → busy_count flags counts + one (is_busy_at flags counts' r) ≡ busy_count flags counts' + one (is_busy_at flags counts r)
@@ -83,12 +77,6 @@ flags_put flags flags' counts value r q e = by_test (value / 2 ^ 30 == 1) _
     (λ t. by_test (value / 2 ^ 30 == 2) _
     (λ u. flag_put flags flags' counts r false (rw q (rw u at (rw t at e))))
     (λ u. let d : flags' ≡ flags = rw u at (rw t at e) in rw d refl))
-
-is_zero : (k : ℕ) → k ≡ 0 → (k == 0) ≡ true
-is_zero k e = elim (eqb_tells k 0) [
-  | inl z ↦ z.0
-  | inr z ↦ absurd (z.1 e)
-]
 
 not_zero : (k : ℕ) → 0 < k → (k == 0) ≡ false
 not_zero k e = elim (eqb_tells k 0) [
@@ -148,11 +136,8 @@ count_fits p n w e = let a = count_small p 0 n in omega arith
 
 -- ---- lists in front of what is left of an array
 
-pub taken : {X : Type 0} (n : ℕ) (xs ys : List X) → n ≡ length xs → take n (xs ++ ys) ≡ xs
-taken n [] ys e = let z : 0 ≡ n = omega arith in subst (λ k. take k ys ≡ []) z refl
-taken n (x ∷ xs) ys e =
-    let z : suc (length xs) ≡ n = omega arith in
-    subst (λ k. take k (x ∷ (xs ++ ys)) ≡ x ∷ xs) z (ap (λ l. x ∷ l) (taken (length xs) xs ys refl))
+taken : {X : Type 0} (n : ℕ) (xs ys : List X) → n ≡ length xs → take n (xs ++ ys) ≡ xs
+taken n xs ys e = subst (λ k. take k (xs ++ ys) ≡ xs) (sym e) (take-append_seam xs ys)
 
 -- One requester may have changed, between a test `was` and a test `now`: what holds of the number `w` before, where
 -- `of` tells the number from the first `n` items of a list that begins with `new`.

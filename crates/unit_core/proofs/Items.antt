@@ -1,8 +1,10 @@
+-- What a step does to the open submissions of a unit, by cases.
 use Rattle.std.proofs.Common.{◌≡◌, ℕ, ◌+◌, ◌≤◌, ◌++◌, Bool, true, false, not, cond, ltb, List, [], ◌∷◌, Option, Some, None, map, find, refl, ◌∙◌, subst, arith, ◌⊎◌, inl, inr}
 use Rattle.std.specs.Prelude.{count_by}
 use Rattle.std.specs.List.{AllByRecursion}
 use Rattle.std.proofs.lemmas.Bool.{cond_both, not-false, not-true}
 use Rattle.std.proofs.lemmas.List.Sums.{sum_by-cons, sum_by-append}
+use Rattle.event_words.proofs.ListItems.{all_push, all_of}
 use Rattle.event_words.specs.declared.access.Access.{Access}
 use Rattle.event_words.specs.declared.reply.Denial.{Denial}
 use Rattle.event_words.specs.declared.reply.Decision.{Decision}
@@ -59,10 +61,6 @@ judge_cases Q x place caller p q r s = by_item (find (is_item place caller) x.su
 
 -- ---- the open submissions as a list
 
-pub all_append : {X : Type 0} (P : X → Type 0) (xs : List X) (y : X) → AllByRecursion P xs → P y → AllByRecursion P (xs ++ y ∷ [])
-all_append P [] y h p = (p, tt)
-all_append P (x ∷ xs) y h p = (h.0, all_append P xs y h.1 p)
-
 pub all_map : {X : Type 0} (P Q : X → Type 0) (f : X → X) (xs : List X) → ((x : X) → P x → Q (f x)) → AllByRecursion P xs → AllByRecursion Q (map f xs)
 all_map P Q f [] each h = tt
 all_map P Q f (x ∷ xs) each h = (each x h.0, all_map P Q f xs each h.1)
@@ -100,10 +98,6 @@ count_released flags [] = omega arith
 count_released flags (x ∷ xs) =
     omega (arith, sum_by-cons weight x xs, sum_by-cons weight (released_item flags x) (map (released_item flags) xs), fewer flags x, count_released flags xs)
 
-pub all_of : {X : Type 0} (P Q : X → Type 0) (xs : List X) → ((x : X) → P x → Q x) → AllByRecursion P xs → AllByRecursion Q xs
-all_of P Q [] each h = tt
-all_of P Q (x ∷ xs) each h = (each x h.0, all_of P Q xs each h.1)
-
 pub all_found : (P : Submission → Type 0) (f : Submission → Bool) (xs : List Submission) (y : Submission) → find f xs ≡ Some y → AllByRecursion P xs → P y × (f y ≡ true)
 all_found P f [] y e h = absurd (let n : None ≡ Some y = e in cc)
 all_found P f (x ∷ xs) y e h =
@@ -132,8 +126,8 @@ items_step P Q k x (RegRead unit caller index) stays freed new h = all_of P Q x.
 items_step P Q k x (Submit unit caller a) stays freed new h =
     let on = all_of P Q x.submissions stays h in
     submit_cases (λ r. (submit_step k x caller a).1 ≡ r.1 → AllByRecursion Q r.0.submissions) k x caller a
-    (λ e q. all_append Q x.submissions _ on (new unit caller a false refl e (inl q)))
-    (λ e f q. all_append Q x.submissions _ on (new unit caller a true refl e (inr q))) (λ d q. on) (λ q. on) refl
+    (λ e q. all_push Q x.submissions _ on (new unit caller a false refl e (inl q)))
+    (λ e f q. all_push Q x.submissions _ on (new unit caller a true refl e (inr q))) (λ d q. on) (λ q. on) refl
 items_step P Q k x (Judge unit caller place) stays freed new h =
     let on = all_of P Q x.submissions stays h in
     judge_cases (λ r. AllByRecursion Q r.0.submissions) x place caller (λ e. on) (λ item e f. on)

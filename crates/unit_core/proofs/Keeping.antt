@@ -4,11 +4,11 @@ use Rattle.std.specs.Prelude.{IfSome, Option}
 use Rattle.std.specs.List.{AllByRecursion}
 use Rattle.event_words.specs.declared.access.Access.{Access}
 use Rattle.event_words.specs.Valid.{IsValidAccess}
+use Rattle.event_words.proofs.ListItems.{all_push}
 use Rattle.unit_core.specs.declared.kept.Kept.{Kept}
 use Rattle.unit_core.specs.Submissions.{SubmittedAccess}
 use Rattle.unit_core.specs.Places.{submission_in, IsKept, nothing_kept}
 use Rattle.unit_core.proofs.SubmissionLists.{submission}
-use Rattle.unit_core.proofs.HeldBack.{all_append}
 
 pub kept_valid : (kept : Kept) (u caller : ℕ) (a : Access) → submission_in kept ≡ Some (submission u caller a) → IsValidAccess a → IsKept kept
 kept_valid kept u caller a e h = subst (λ (o : Option SubmittedAccess). IfSome o (λ s. IsValidAccess s.access)) (sym e) h
@@ -19,4 +19,4 @@ all_kept_set (w ∷ ws) zero kept h k = (k, h.1)
 all_kept_set (w ∷ ws) (suc i) kept h k = (h.0, all_kept_set ws i kept h.1 k)
 
 pub all_kept_pushed : (ws : List Kept) → AllByRecursion IsKept ws → AllByRecursion IsKept (ws ++ nothing_kept ∷ [])
-all_kept_pushed ws h = all_append IsKept ws nothing_kept h tt
+all_kept_pushed ws h = all_push IsKept ws nothing_kept h tt

@@ -1,3 +1,4 @@
+-- Each unit of a history goes its own way, and the reply at a place is its unit's.
 use Rattle.std.proofs.Common.{◌≡◌, ℕ, suc, zero, ◌+◌, ◌^◌, nat_le, cond, eqb, Bool, true, false, List, [], ◌∷◌, Option, Some, None, set, refl, sym, ap, ◌∙◌, ⊎_elim}
 use Rattle.std.specs.Prelude.{slice_get, option_map, option_and_then, IfSome}
 use Rattle.event_words.specs.declared.access.Access.{Access}
@@ -6,6 +7,7 @@ use Rattle.unit_core.specs.Submissions.{SubmittedAccess, submitted}
 use Rattle.unit_core.specs.Submitted.{IsSubmission, taken_at}
 use Rattle.std.proofs.lemmas.Bool.{cases_eq, eq-eqb, ne_eqb, cond-true, cond-false, cond_both, eqb-true}
 use Rattle.std.proofs.lemmas.Option.{slice_get-map}
+use Rattle.std.proofs.lemmas.Iterator.Adapters.{option_map_id}
 use Rattle.event_words.specs.declared.shape.Shape.{Shape}
 use Rattle.event_words.specs.declared.event.Event.{Event}
 use Rattle.event_words.specs.declared.reply.Reply.{Reply}
@@ -28,7 +30,7 @@ speaks-some u (Some v) t = ap (λ n. Some n) (eqb-true v u t)
 some-speaks : (u : ℕ) (o : Option ℕ) → o ≡ Some u → speaks_of u o ≡ true
 some-speaks u o q = ap (speaks_of u) q ∙ eq-eqb u u refl
 
-else-silent : (u : ℕ) (o : Option ℕ) → (o ≡ Some u → ⊥) → speaks_of u o ≡ false
+pub else-silent : (u : ℕ) (o : Option ℕ) → (o ≡ Some u → ⊥) → speaks_of u o ≡ false
 else-silent u None ne = refl
 else-silent u (Some v) ne = ne_eqb v u (λ q. ne (ap (λ n. Some n) q))
 
@@ -77,23 +79,19 @@ other_stepped : (k u : ℕ) (us : List UnitState) (e : Event) (o : Option ℕ) �
 other_stepped k u us e None s = refl
 other_stepped k u us e (Some v) s = other_at k u v us e (slice_get us v) (λ q. s (ap (λ n. Some n) q))
 
-same : {X : Type 0} (o : Option X) → o ≡ option_map (λ x. x) o
-same None = refl
-same (Some x) = refl
-
 taken_stepped : (k u : ℕ) (us : List UnitState) (o : Option Event) → slice_get (taken_step k us o).0 u ≡ option_map (λ x. own_step k u x o) (slice_get us u)
-taken_stepped k u us None = same (slice_get us u)
+taken_stepped k u us None = sym (option_map_id (slice_get us u))
 taken_stepped k u us (Some e) = by_speaking u (unit_of e)
     (λ s. ap (λ o. slice_get (step_on k us e o).0 u) s ∙ own_stepped k u us e (slice_get us u) refl ∙ sym (at_own k u e (slice_get us u) s))
     (λ s. other_stepped k u us e (unit_of e) s ∙ sym (at_other k u e (slice_get us u) s))
 
 stepped : (k u : ℕ) (aims : List ℕ) (us : List UnitState) (o : Option Event) → slice_get (after_event k aims us o) u ≡ option_map (λ x. own_step k u x (option_and_then (taken_as aims) o)) (slice_get us u)
-stepped k u aims us None = same (slice_get us u)
+stepped k u aims us None = sym (option_map_id (slice_get us u))
 stepped k u aims us (Some (RegWrite v c i n)) = taken_stepped k u us (Some (RegWrite v c i n))
 stepped k u aims us (Some (RegRead v c i)) = taken_stepped k u us (Some (RegRead v c i))
 stepped k u aims us (Some (Submit v c a)) = taken_stepped k u us (Some (Submit v c a))
 stepped k u aims us (Some (Judge v c p)) = taken_stepped k u us (Some (Judge v c p))
-stepped k u aims us (Some (Aim c addr)) = same (slice_get us u)
+stepped k u aims us (Some (Aim c addr)) = sym (option_map_id (slice_get us u))
 stepped k u aims us (Some (Wide v c rrid kind len)) = taken_stepped k u us (taken_as aims (Wide v c rrid kind len))
 
 map_again : {X Y Z : Type 0} (f : Y → Z) (g : X → Y) (o : Option X) → option_map f (option_map g o) ≡ option_map (λ x. f (g x)) o
@@ -161,7 +159,7 @@ reply_on : (h : History) (k : ℕ) (e : Event) (u : ℕ) (o : Option UnitState) 
 reply_on h k e u o p q s =
     reply_taken h k e p ∙ ap (λ v. Some (step_on k (units_at h k) e v).1) q ∙ ap (λ o. Some (step_at k (units_at h k) e u o).1) s
 
-some_same : (a b : Reply) → Some a ≡ Some b → a ≡ b
+pub some_same : (a b : Reply) → Some a ≡ Some b → a ≡ b
 some_same a b e = cc
 
 -- The reply to an event that a unit takes is the unit's.

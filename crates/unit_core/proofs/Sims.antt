@@ -1,5 +1,7 @@
+-- A read and a write of a unit do what they do to the state that it stands for.
 use Rattle.std.proofs.Common.{◌≡◌, ℕ, ◌^◌, ◌/◌, ◌%◌, ◌<◌, Bool, true, false, ◌&&◌, not, eqb, ltb, List, [], ◌∷◌, Option, Some, None, length, map, filter, count_by, arith, refl, sym, ap, ◌∙◌, subst, length-set}
 use Rattle.std.specs.List.{AllByRecursion}
+use Rattle.std.proofs.Math.Bool.{and-false}
 use Rattle.std.proofs.lemmas.Bool.Decides.{nat_tests}
 use Rattle.event_words.specs.declared.access.Access.{Access}
 use Rattle.event_words.specs.declared.reply.Denial.{Denial}
@@ -20,9 +22,9 @@ use Rattle.unit_core.specs.Submissions.{released_item}
 use Rattle.unit_core.specs.Places.{IsHeldBack}
 use Rattle.unit_core.specs.Units.{read_value, after_write}
 use Rattle.unit_core.specs.Parts.{part_read, IsHeld, IsWritten, stays_until, moved_for}
-use Rattle.unit_core.specs.Places.{items_of, waiting_of, Agrees, state_with, state_of}
+use Rattle.unit_core.specs.Places.{items_of, queued_among, Agrees, state_with, state_of}
 use Rattle.unit_core.proofs.Busy.{flag_known, busy_same}
-use Rattle.unit_core.proofs.SubmissionLists.{items_released, waiting_released, flying_stalled, flying_moved}
+use Rattle.unit_core.proofs.SubmissionLists.{items_released, queued_released, flying_stalled, flying_moved}
 use Rattle.unit_core.proofs.HeldBack.{all_released}
 
 -- ---- a read
@@ -53,13 +55,13 @@ flags_after_len r flags index value h = by_test (eqb index (index_of Mdstall)) _
 
 -- ---- a write
 
-known_pairs : (flags : List Bool) (xs : List Submission) → AllByRecursion (IsHeldBack flags) xs → AllByRecursion (λ (w : QueuedSubmission). w.rrid < length flags) (waiting_of xs)
+known_pairs : (flags : List Bool) (xs : List Submission) → AllByRecursion (IsHeldBack flags) xs → AllByRecursion (λ (w : QueuedSubmission). w.rrid < length flags) (queued_among xs)
 known_pairs flags [] h = tt
 known_pairs flags (x ∷ xs) h = by_test x.queued _
     (λ t. rw t (flag_known flags x.access.rrid (h.0 t), known_pairs flags xs h.1))
     (λ f. rw f (known_pairs flags xs h.1))
 
-held_pairs : (flags : List Bool) (xs : List Submission) → AllByRecursion (IsHeldBack flags) xs → AllByRecursion (IsHeld flags) (waiting_of xs)
+held_pairs : (flags : List Bool) (xs : List Submission) → AllByRecursion (IsHeldBack flags) xs → AllByRecursion (IsHeld flags) (queued_among xs)
 held_pairs flags [] h = tt
 held_pairs flags (x ∷ xs) h = by_test x.queued _
     (λ t. rw t (h.0 t, held_pairs flags xs h.1))
@@ -77,11 +79,7 @@ stays_known flags k (w ∷ xs) h =
     by_test (flag_of flags w.rrid) _ (λ t. rw t (ap (λ ys. w ∷ ys) rest)) (λ f. rw (f, b) rest)
 
 moved_stalled : (flags : List Bool) (k s : ℕ) (xs : List QueuedSubmission) → flag_of flags s ≡ true → moved_for flags k xs s ≡ 0
-moved_stalled flags k s xs t = rw (t, and_false (ltb s k)) refl
-  where
-    and_false : (b : Bool) → (b && false) ≡ false
-    and_false true = refl
-    and_false false = refl
+moved_stalled flags k s xs t = rw (t, and-false (ltb s k)) refl
 
 moved_known : (flags : List Bool) (k s : ℕ) (xs : List QueuedSubmission) → flag_of flags s ≡ false → s < k → moved_for flags k xs s ≡ count_by (is_of s) xs
 moved_known flags k s xs t l = let b : ltb s k ≡ true = grind (arith, nat_tests) in rw (b, t) refl
@@ -93,7 +91,7 @@ pub written_queue : (x y : IopmpUnit) (items : List Submission) (index value : �
 written_queue x y items index value t w =
     let fl = flags_after x.regs x.stall.flags index value in
     let known : AllByRecursion (λ (v : QueuedSubmission). v.rrid < x.regs.shape.rrids) x.queue.items =
-    subst (AllByRecursion (λ (v : QueuedSubmission). v.rrid < x.regs.shape.rrids)) (sym t.queue) (subst (λ k. AllByRecursion (λ (v : QueuedSubmission). v.rrid < k) (waiting_of items)) t.flags (known_pairs x.stall.flags items t.held)) in
+    subst (AllByRecursion (λ (v : QueuedSubmission). v.rrid < x.regs.shape.rrids)) (sym t.queue) (subst (λ k. AllByRecursion (λ (v : QueuedSubmission). v.rrid < k) (queued_among items)) t.flags (known_pairs x.stall.flags items t.held)) in
     w.released.items ∙ (stays_known fl x.regs.shape.rrids x.queue.items known ∙ ap (λ fs. filter (λ (v : QueuedSubmission). flag_of fs v.rrid) x.queue.items) (sym w.released.flags))
 
 pub written_tied : (x y : IopmpUnit) (items : List Submission) (index value : ℕ) → Agrees x items → IsWritten x y index value → Agrees y (new_items y items)
@@ -110,13 +108,13 @@ written_tied x y items index value t w =
           let l : s < x.regs.shape.rrids = omega arith in
           let old = t.counts s l in
           let fl = ap (λ fs. flag_of fs s) w.released.flags in
-          let q : count_by (is_of s) x.queue.items ≡ count_by (is_of s) (waiting_of items) = ap (count_by (is_of s)) t.queue in
+          let q : count_by (is_of s) x.queue.items ≡ count_by (is_of s) (queued_among items) = ap (count_by (is_of s)) t.queue in
           by_test (flag_of y.stall.flags s) _
           (λ f. let m = moved_stalled (flags_after x.regs x.stall.flags index value) x.regs.shape.rrids s x.queue.items (sym fl ∙ f) in
           let n = flying_stalled y.stall.flags s items f in omega (arith, c, old, m, n))
           (λ f. let m = moved_known (flags_after x.regs x.stall.flags index value) x.regs.shape.rrids s x.queue.items (sym fl ∙ f) l in
           let n = flying_moved y.stall.flags s items f in omega (arith, c, old, m, n, q));
-      queue = written_queue x y items index value t w ∙ (ap (filter (λ (v : QueuedSubmission). flag_of y.stall.flags v.rrid)) t.queue ∙ sym (waiting_released y.stall.flags items));
+      queue = written_queue x y items index value t w ∙ (ap (filter (λ (v : QueuedSubmission). flag_of y.stall.flags v.rrid)) t.queue ∙ sym (queued_released y.stall.flags items));
       held = all_released y.stall.flags items;
     }
 

@@ -19,7 +19,7 @@ wide_taken unit caller a t P h e = by_test (leb (a.addr + a.len) (2 ^ 52)) _
     (λ f. let g : Some (Submit unit caller a) ≡ Some t = rw f at e in same_event (Submit unit caller a) t P (h (leb-true (a.addr + a.len) (2 ^ 52) f)) g)
     (λ f. absurd (let n : None ≡ Some t = rw f at e in cc))
 
-abbrev SubmitsValid : Event → Type 0
+abbrev pub SubmitsValid : Event → Type 0
 SubmitsValid t = IfSome (submitted t) (λ s. IsValidAccess s.access)
 
 -- What is taken submits a valid access.

@@ -63,8 +63,8 @@ pub record IsWritten (x y : IopmpUnit) (index value : ℕ) : Type 0 where
 abbrev pub with_counts : IopmpUnit → List ℕ → IopmpUnit
 with_counts x counts = record x { stall = record { flags = x.stall.flags; counts = counts } }
 
-abbrev pub with_waiting : IopmpUnit → ℕ → ℕ → IopmpUnit
-with_waiting x place rrid = record x { queue = record { items = x.queue.items ++ record { place = place; rrid = rrid } ∷ []; size = x.queue.size } }
+abbrev pub with_queued : IopmpUnit → ℕ → ℕ → IopmpUnit
+with_queued x place rrid = record x { queue = record { items = x.queue.items ++ record { place = place; rrid = rrid } ∷ []; size = x.queue.size } }
 
 abbrev pub part_stall_denial : IopmpUnit → Denial
 part_stall_denial x = denial x.regs 7 0xFFFF false false
@@ -72,7 +72,7 @@ part_stall_denial x = denial x.regs 7 0xFFFF false false
 abbrev pub part_submit : ℕ → IopmpUnit → Access → IopmpUnit × Reply
 part_submit p x a =
     if not (flag_of x.stall.flags a.rrid) then (with_counts x (more_at x.stall.counts a.rrid), replies.Passed)
-    else (if nat_lt (length x.queue.items) x.queue.size then (with_waiting x p a.rrid, replies.Queued)
+    else (if nat_lt (length x.queue.items) x.queue.size then (with_queued x p a.rrid, replies.Queued)
     else (if has_bit (reg x.regs ErrCfg) 3
     then (record x { regs = recorded x.regs a (part_stall_denial x) }, replies.Stalled (part_stall_denial x))
     else (x, replies.Busy)))

@@ -1,10 +1,11 @@
 -- What a map has at a register after writes are put into it one by one.
-use Rattle.std.proofs.Common.{◌≡◌, ℕ, ◌+◌, ◌<◌, Bool, true, false, ◌==◌, ltb, cond, List, ◌∷◌, Option, None, Some, if◌then◌else◌, length, get_or, drop, drop-cons, add-one, arith, refl, sym, ap, ◌∙◌}
+use Rattle.std.proofs.Common.{◌≡◌, ℕ, ◌+◌, ◌<◌, Bool, true, false, ◌==◌, ltb, cond, List, Option, None, Some, if◌then◌else◌, length, get_or, drop, arith, refl, sym, ap, ◌∙◌}
 use Rattle.std.specs.Option.{option_or, option_map}
 use Rattle.std.specs.Ordering.{nat_cmp, is_eq}
 use Rattle.std.specs.declared.cmp.Ordering.TheVariants.{Less, Equal, Greater}
 use Rattle.std.specs.BTreeMap.{is_at}
 use Rattle.std.proofs.lemmas.Bool.Decides.{nat_tests}
+use Rattle.std.proofs.lemmas.List.{drop_more}
 use Rattle.policy_compiler.specs.declared.image.RegPair.{RegPair}
 use Rattle.update_planner.specs.Plans.{written_value}
 use Rattle.update_planner.specs.Values.{zero_for, zeros_over, values_over}
@@ -32,9 +33,6 @@ zero_case None true v before = refl
 zero_case None false v before = refl
 zero_case (Some x) b v before = refl
 
-next : (ws : List RegPair) (i : ℕ) (d : RegPair) → i < length ws → drop i ws ≡ get_or ws i d ∷ drop (i + 1) ws
-next ws i d l = drop-cons ws i d l ∙ ap (λ k. get_or ws i d ∷ drop k ws) (sym (add-one i))
-
 -- one more write is put
 pub value_put : (ws : List RegPair) (i q : ℕ) (d : RegPair) (had has whole : Option ℕ) → i < length ws
     → has ≡ cond (is_at (nat_cmp (get_or ws i d).index) q) (Some (get_or ws i d).value) had
@@ -43,7 +41,7 @@ value_put ws i q d had has whole l e h =
     let w = get_or ws i d in
     let s = value_case (written_value (drop (i + 1) ws) q) ((get_or ws i d).index == q) (get_or ws i d).value had in
     ap (λ o. values_over (drop (i + 1) ws) o q) (e ∙ ap (λ b. cond b (Some (get_or ws i d).value) had) (at_key (get_or ws i d).index q))
-    ∙ (s ∙ (ap (λ xs. values_over xs had q) (sym (next ws i d l)) ∙ h))
+    ∙ (s ∙ (ap (λ xs. values_over xs had q) (sym (drop_more ws i d l)) ∙ h))
 
 -- one more 0 is put
 pub zero_put : (ws : List RegPair) (i q : ℕ) (d : RegPair) (had has whole : Option ℕ) → i < length ws
@@ -52,4 +50,4 @@ pub zero_put : (ws : List RegPair) (i q : ℕ) (d : RegPair) (had has whole : Op
 zero_put ws i q d had has whole l e h =
     let s = zero_case (written_value (drop (i + 1) ws) q) ((get_or ws i d).index == q) (get_or ws i d).value had in
     ap (λ o. zeros_over (drop (i + 1) ws) o q) (e ∙ ap (λ b. cond b (Some 0) had) (at_key (get_or ws i d).index q))
-    ∙ (s ∙ (ap (λ xs. zeros_over xs had q) (sym (next ws i d l)) ∙ h))
+    ∙ (s ∙ (ap (λ xs. zeros_over xs had q) (sym (drop_more ws i d l)) ∙ h))

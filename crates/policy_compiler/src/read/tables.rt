@@ -1,9 +1,9 @@
 // Keys of tables, and values of the types that they must have.
-ghost use Rattle.std.specs.Prelude.{◌≡◌, ◌≤◌, ◌<◌, ◌^◌, nat_le, length, MatchResult, IfOk, true, false};
+ghost use Rattle.std.specs.Prelude.{◌≡◌, ◌≤◌, ◌<◌, ◌^◌, nat_le, length, is_some, MatchResult, IfOk, true, false};
 ghost use Rattle.std.specs.Option.{option_map};
 ghost use Rattle.toml.specs.Data.{get_member, as_table, as_integer, no_items};
 ghost use Rattle.toml.specs.View.{view, table_view, items_view};
-ghost use Rattle.policy_compiler.specs.Tables.{typed, required, optional, in_range, number_in, is_key, is_rule_key, has_other_key, are_tables, are_integers, item_count, is_some_of, path_of};
+ghost use Rattle.policy_compiler.specs.Tables.{typed, required, optional, in_range, number_in, is_key, is_rule_key, has_other_key, are_tables, are_integers, item_count, path_of};
 ghost use Rattle.policy_compiler.specs.Rules.{tables_in};
 
 use crate::path::Fault;
@@ -110,7 +110,7 @@ pub fn table(path: Path, value: Option<&Value>) -> Result<&Table, Fault>
 }
 
 fn is_table(value: &Value) -> bool
-    ensures { result ≡ is_some_of (as_table (view value.now)) }
+    ensures { result ≡ is_some (as_table (view value.now)) }
 {
     match value.as_table() {
         None => false,
@@ -119,7 +119,7 @@ fn is_table(value: &Value) -> bool
 }
 
 fn is_integer(value: &Value) -> bool
-    ensures { result ≡ is_some_of (as_integer (view value.now)) }
+    ensures { result ≡ is_some (as_integer (view value.now)) }
 {
     match value.as_integer() {
         None => false,

@@ -1,3 +1,4 @@
+-- The first line is bad, or what was found after it counts.
 use Rattle.std.proofs.Common.{◌≡◌, ◌∷◌, sym, ap, ◌∙◌, arith}
 use Rattle.script_reader.specs.ReportTexts.{fed_lines}
 use Rattle.event_words.specs.ReportLines.{count_line}

@@ -1,3 +1,4 @@
+-- Which of the lines after the events is the first bad one, or that the report is legal.
 use Rattle.audit_reader.proofs.Prefixes.{is_left, none_is_left}
 use Rattle.audit_reader.proofs.LastAnswers.{end_found, unit_found, last_found, more_found, none_found}
 use Rattle.audit_reader.proofs.auditing.audit_lines.Goals as goal

@@ -1,3 +1,4 @@
+-- The line's caller is awaited with an event, whose line it is or is not.
 use Rattle.std.proofs.Common.{ℕ, Option, ap, subst, ◌∙◌, arith}
 use Rattle.std.specs.List.{concat}
 use Rattle.event_words.specs.declared.event.Event.{Event}

@@ -1,3 +1,4 @@
+-- One event's line more is read, or is the first that is bad.
 use Rattle.std.proofs.Common.{Bool, subst, rules, arith}
 use Rattle.audit_reader.specs.Following.{EventAnswer}
 use Rattle.audit_reader.proofs.GoodLines.{lists_none, read_more}

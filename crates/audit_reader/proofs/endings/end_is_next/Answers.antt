@@ -1,3 +1,4 @@
+-- The section's line is the next one, or is not.
 use Rattle.std.proofs.Common.{◌∷◌, Option, ap, sym, ◌∙◌}
 use Rattle.std.specs.List.{concat}
 use Rattle.event_words.specs.declared.record.SectionEnd.{SectionEnd}

@@ -1,3 +1,4 @@
+-- The unit's line is the next one, or is not.
 use Rattle.std.proofs.Common.{◌∙◌}
 use Rattle.std.specs.List.{concat}
 use Rattle.event_words.specs.ReportLines.{unit_line_of}

@@ -1,3 +1,4 @@
+-- One unit's line more came, or is the first that is bad.
 use Rattle.std.proofs.Common.{◌∷◌, ap, sym, ◌∙◌, arith}
 use Rattle.script_reader.specs.ReportTexts.{fed_lines}
 use Rattle.event_words.specs.ReportLines.{unit_line_of}

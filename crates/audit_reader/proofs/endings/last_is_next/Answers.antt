@@ -1,3 +1,4 @@
+-- The last line is the next one, or is not.
 use Rattle.std.proofs.Common.{codes, refl}
 use Rattle.std.specs.List.{concat}
 use Rattle.audit_reader.proofs.LinesOfReports.{last_is_line}

@@ -1,3 +1,4 @@
+-- The caller's number stands after the place and a space.
 use Rattle.std.proofs.Common.{◌≡◌, ap, ◌∙◌, ◌++◌, codes, decimal, List, ℕ}
 use Rattle.event_words.specs.Events.{caller_of}
 use Rattle.audit_reader.proofs.Fronts.{rest_of_line}

@@ -1,3 +1,4 @@
+-- Each digit goes from those that are left to the number so far.
 use Rattle.std.proofs.Common.{◌≡◌, ℕ, ◌+◌, ◌*◌, Option, None, Some, drop, get_or, sym, ap, ◌∙◌, arith}
 use Rattle.audit_reader.specs.Digits.{digit_at}
 use Rattle.audit_reader.proofs.Leading.{leading, with_digit, grows, more, at_end, of_decimal}

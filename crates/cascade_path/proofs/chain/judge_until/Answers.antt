@@ -1,3 +1,4 @@
+-- One judgement more is held, or the last one tells the answer.
 use Rattle.std.proofs.Common.{ℕ, refl, sym, ◌∙◌, subst, arith}
 use Rattle.event_words.specs.declared.event.Event.{Event}
 use Rattle.event_words.specs.declared.event.Event.TheVariants as events

@@ -1,3 +1,4 @@
+-- Each judgement so far was held.
 use Rattle.event_words.specs.declared.event.Event.TheVariants as events
 use Rattle.shared_log.specs.Callers.{IsCaller}
 use Rattle.cascade_path.proofs.Judging.{Judging}

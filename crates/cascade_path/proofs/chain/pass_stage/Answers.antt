@@ -1,3 +1,4 @@
+-- What a stage answers after its submission, whichever reply that had.
 use Rattle.std.proofs.Common.{◌-◌, refl, ap, subst}
 use Rattle.std.specs.Prelude.{Result}
 use Rattle.event_words.specs.declared.reply.Reply.{Reply}

@@ -1,3 +1,4 @@
+-- One stage more allowed, or answers for the whole chain.
 use Rattle.std.proofs.Common.{◌≡◌, ◌≤◌, ◌+◌, ◌*◌, ℕ, length, get_or, subst, arith}
 use Rattle.event_words.specs.declared.access.Access.{Access}
 use Rattle.event_words.specs.Sections.{submission_events}

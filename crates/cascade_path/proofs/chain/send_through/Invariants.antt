@@ -1,3 +1,4 @@
+-- Each stage so far allowed.
 use Rattle.std.proofs.Common.{◌<◌}
 use Rattle.shared_log.specs.Callers.{IsCaller}
 use Rattle.cascade_path.proofs.Passing.{Passing}

@@ -1,3 +1,4 @@
+-- An access is submitted by one event, or by two, or its aim is not taken.
 use Rattle.std.proofs.Common.{sym, ◌∙◌, arith}
 use Rattle.event_words.specs.declared.event.Event.TheVariants as events
 use Rattle.event_words.specs.Records.{wide_event}

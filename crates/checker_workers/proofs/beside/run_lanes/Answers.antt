@@ -1,3 +1,4 @@
+-- Lanes may go to other threads.
 use denote.Exit.{yes}
 use denote.Param.Send.{param_send, arg_send}
 use Rattle.checker_workers.proofs.Crossing.{lane_send}

@@ -1,6 +1,8 @@
+-- One command more is played, and the section stops or goes on.
 use Rattle.std.proofs.Common.{arith}
+use Rattle.std.proofs.lemmas.List.{drop_more}
 use Rattle.event_words.specs.declared.section.Command.TheVariants.{Write}
-use Rattle.checker_workers.proofs.Playing.{playing_none, playing_next, playing_stopped, playing_done, next_command, goes_as}
+use Rattle.checker_workers.proofs.Playing.{playing_none, playing_next, playing_stopped, playing_done, goes_as}
 use Rattle.checker_workers.proofs.Resting.{rests_first, rests_after}
 use Rattle.checker_workers.proofs.lane.play_commands.Goals as goal
 
@@ -13,13 +15,13 @@ loop-command-init g c = record {
 pub returns-then-not-play_command : goal.returns-then-not-play_command
 returns-then-not-play_command g c =
     playing_stopped c.args.port.now c.loop-command.port c.play_command.new.port c.args.commands.now c.loop-command.command-index c.loop-command.table.items c.play_command.new.table.items _ _ _ c.loop-command.invariant.playing
-    (next_command c.args.commands.now c.loop-command.command-index (Write 0 0 0) c.loop-command-test.true)
+    (drop_more c.args.commands.now c.loop-command.command-index (Write 0 0 0) c.loop-command-test.true)
     (goes_as c.loop-command.port c.play_command.new.port c.loop-command.table.items c.play_command.new.table.items _ c.play_command.result _ c.if-not-play_command.true c.play_command.ensures.plays)
 
 pub loop-command-preserved : goal.loop-command-preserved
 loop-command-preserved g c = record {
   playing = playing_next c.args.port.now c.loop-command.port c.play_command.new.port c.args.commands.now c.loop-command.command-index c.loop-command.table.items c.play_command.new.table.items _ _ _ _ _ c.loop-command.invariant.playing
-      (next_command c.args.commands.now c.loop-command.command-index (Write 0 0 0) c.loop-command-test.true)
+      (drop_more c.args.commands.now c.loop-command.command-index (Write 0 0 0) c.loop-command-test.true)
       (goes_as c.loop-command.port c.play_command.new.port c.loop-command.table.items c.play_command.new.table.items _ c.play_command.result _ c.if-not-play_command.false c.play_command.ensures.plays)
       c.play_command.ensures.count c.play_command.ensures.capacity;
   first = c.loop-command.invariant.first;

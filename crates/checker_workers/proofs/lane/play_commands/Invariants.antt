@@ -1,3 +1,4 @@
+-- The commands so far are played.
 use Rattle.std.proofs.Common.{◌≡◌, vec_len, vec_capacity}
 use Rattle.checker_workers.proofs.Playing.{Playing}
 use Rattle.checker_workers.proofs.lane.play_commands.Given as goal

@@ -1,3 +1,4 @@
+-- Each kind of command makes its piece of the record.
 use Rattle.std.proofs.Common.{Bool, false, not, sym, subst}
 use Rattle.event_words.specs.declared.event.Event.TheVariants as events
 use Rattle.event_words.specs.declared.reply.Reply.TheVariants as replies

@@ -1,3 +1,4 @@
+-- One read more misses, or hits.
 use Rattle.std.proofs.Common.{eq-eqb, ne_eqb}
 use Rattle.event_words.specs.declared.event.Event.TheVariants as events
 use Rattle.event_words.specs.declared.reply.Reply.TheVariants as replies

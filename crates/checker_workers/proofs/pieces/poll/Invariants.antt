@@ -1,3 +1,4 @@
+-- No read so far hit.
 use Rattle.event_words.specs.declared.event.Event.TheVariants as events
 use Rattle.checker_workers.proofs.Turns.{Polling}
 use Rattle.checker_workers.proofs.pieces.poll.Given as goal

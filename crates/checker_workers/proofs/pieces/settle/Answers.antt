@@ -1,3 +1,4 @@
+-- One judgement more is held, or has a verdict.
 use Rattle.std.proofs.Common.{subst}
 use Rattle.checker_workers.specs.declared.ticket.Judged.{Judged}
 use Rattle.checker_workers.specs.Tickets.{Judges}

@@ -1,3 +1,4 @@
+-- Each judgement so far was held.
 use Rattle.checker_workers.proofs.Turns.{Settling}
 use Rattle.checker_workers.proofs.pieces.settle.Given as goal
 

@@ -1,3 +1,4 @@
+-- A slot without a ticket, and one whose ticket is settled or held.
 use Rattle.std.proofs.Common.{List, Option, sym, ◌∙◌, subst}
 use Rattle.checker_workers.specs.declared.ticket.Judged.{Judged}
 use Rattle.checker_workers.specs.TicketViews.{TicketView}

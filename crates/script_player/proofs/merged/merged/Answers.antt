@@ -3,8 +3,9 @@ use Rattle.std.proofs.Common.{◌≡◌, ◌≤◌, ◌<◌, length, take, refl,
 use Rattle.std.proofs.lemmas.Grind.{common_steps}
 use Rattle.std.proofs.lemmas.List.{take_all}
 use Rattle.script_player.specs.MergedReplies.{replies_by, list_of}
-use Rattle.script_player.proofs.MergedReplies.{counts_within, merged_more, zeros}
+use Rattle.script_player.proofs.MergedReplies.{counts_within, merged_more}
 use Rattle.script_player.proofs.merged.merged.Goals as goal
+use Rattle.unit_core.proofs.Openings.{get_zero}
 
 pub loop-word-init : goal.loop-word-init
 loop-word-init c = record {
@@ -12,8 +13,8 @@ loop-word-init c = record {
   len = c.in_ok-replies.ensures.len;
   room = grind (arith, common_steps);
   callers = refl;
-  within = λ k lt. subst (λ n. n ≤ 0) (sym (zeros 32 k)) (omega arith);
-  each = λ k lt. sym (ap (λ n. take n (list_of c.args.kept.now k)) (zeros 32 k));
+  within = λ k lt. subst (λ n. n ≤ 0) (sym (get_zero 32 k)) (omega arith);
+  each = λ k lt. sym (ap (λ n. take n (list_of c.args.kept.now k)) (get_zero 32 k));
 }
 
 pub loop-word-preserved : goal.loop-word-preserved

@@ -1,8 +1,9 @@
 -- A section's events are few, and the greater number goes on.
 use Rattle.std.proofs.Common.{ap, sym, ◌∙◌, ◌≤◌, ◌^◌, ◌+◌, max, drop, subst, arith}
 use Rattle.event_words.specs.Sections.{IsValidSection, most_section_events}
+use Rattle.event_words.proofs.ListItems.{all_at}
 use Rattle.script_reader.specs.Scripts.{most_from}
-use Rattle.script_reader.proofs.Needs.{events_few, all_at, most_step}
+use Rattle.script_reader.proofs.Needs.{events_few, most_step}
 use Rattle.script_reader.proofs.script.most_events.Goals as goal
 
 pub loop-section-preserved : goal.loop-section-preserved

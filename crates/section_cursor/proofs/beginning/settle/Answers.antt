@@ -1,3 +1,4 @@
+-- The judgements of a slot begin with the first try, and are valid events.
 use Rattle.std.proofs.Common.{refl, sym, subst}
 use Rattle.event_words.specs.Records.{after_piece, end_of_commands, judgements, settled}
 use Rattle.event_words.specs.Valid.{IsValidEvent}

@@ -1,3 +1,4 @@
+-- The reads of a poll begin with the first try.
 use Rattle.std.proofs.Common.{refl}
 use Rattle.event_words.specs.Records.{after_piece, end_of_commands, polls, until_piece}
 use Rattle.section_cursor.specs.declared.ahead.Part.TheVariants.{Polling}

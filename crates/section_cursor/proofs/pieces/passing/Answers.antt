@@ -1,3 +1,4 @@
+-- A chain without further units is passed, and else its next unit's stage comes.
 use Rattle.std.proofs.Common.{arith, sym, ◌∙◌}
 use Rattle.section_cursor.proofs.Beginnings.{passing_none, passing_first}
 use Rattle.section_cursor.proofs.pieces.passing.Goals as goal

@@ -1,3 +1,4 @@
+-- After a try that counts down, the same event is awaited with one try fewer.
 use Rattle.std.proofs.Common.{arith, sym}
 use Rattle.section_cursor.proofs.Beginnings.{judging_again, polling_again, stage_judging_again}
 use Rattle.section_cursor.proofs.retrying.tried_again.Goals as goal

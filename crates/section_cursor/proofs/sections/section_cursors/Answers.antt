@@ -1,3 +1,4 @@
+-- A fresh cursor for the boot section, and one for each lane.
 use Rattle.std.proofs.Common.{◌≡◌, ◌+◌, ◌++◌, ◌∷◌, [], List, length, take, length-append, arith, ap, sym, subst, ◌∙◌}
 use Rattle.std.proofs.lemmas.List.{take_more}
 use Rattle.event_words.specs.Sections.{SectionOf}

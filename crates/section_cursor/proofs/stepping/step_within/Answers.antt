@@ -1,3 +1,4 @@
+-- What is awaited after an event, for each part of a command.
 use Rattle.section_cursor.proofs.stepping.step_within.Goals as goal
 
 pub returns-in-Aiming-clause-rest : goal.returns-in-Aiming-clause-rest

@@ -1,3 +1,4 @@
+-- The logs of the callers so far are joined to that of the first.
 use Rattle.std.proofs.Common.{◌≡◌, [], ◌++◌, length, map}
 use Rattle.std.specs.Vec.Iter.{into_iter_items, into_iter_len}
 use Rattle.std.specs.List.{AllByRecursion}

@@ -1,3 +1,4 @@
+-- The words so far and those that are left are the words before the first 0.
 use Rattle.std.proofs.Common.{◌≡◌, ◌++◌, vec_len, take, drop}
 use Rattle.std.specs.Mem.Slots.{slots_items}
 use Rattle.shared_log.specs.Words.{words_before_zero}

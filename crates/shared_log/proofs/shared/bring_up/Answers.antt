@@ -1,3 +1,4 @@
+-- The replica takes the next word of the log.
 use Rattle.std.proofs.Common.{◌≡◌, ℕ, ◌+◌, ◌*◌, ◌<◌, length, List, take, get_or, sym, ap, ◌∙◌, arith}
 use Rattle.event_words.specs.Runs.{run}
 use Rattle.event_words.proofs.Runs.{run-take}

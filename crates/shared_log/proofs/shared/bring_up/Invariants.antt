@@ -1,3 +1,4 @@
+-- The replica has taken the words of the log so far.
 use Rattle.std.proofs.Common.{◌≡◌, take}
 use Rattle.event_words.specs.Runs.{run}
 use Rattle.shared_log.proofs.shared.bring_up.Given as goal

@@ -1,3 +1,4 @@
+-- The replica that was brought up goes on from the log, and the new caller has a number of its own.
 use Rattle.std.proofs.Common.{◌≡◌, ◌*◌, ◌<◌, ◌≤◌, [], sym, ap, ◌∙◌, subst, arith}
 use Rattle.event_words.specs.Runs.{run}
 use Rattle.shared_log.specs.Words.{words_by}

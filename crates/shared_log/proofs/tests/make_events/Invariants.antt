@@ -1,3 +1,4 @@
+-- One event of the budget is made each turn.
 use Rattle.std.proofs.Common.{◌≡◌, ◌+◌}
 use Rattle.shared_log.specs.Trials.{Stays}
 use Rattle.shared_log.proofs.tests.make_events.Given as goal

@@ -1,3 +1,4 @@
+-- Callers of the test's machine may go to other threads.
 use denote.Exit.{yes}
 use denote.Param.Send.{param_send, arg_send}
 use Rattle.shared_log.proofs.Crossing.{adder_caller_send}

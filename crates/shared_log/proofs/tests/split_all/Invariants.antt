@@ -1,3 +1,4 @@
+-- The callers so far belong to the log, and each has its whole budget left.
 use Rattle.std.proofs.Common.{◌≡◌, ◌+◌, ◌≤◌, vec_len}
 use Rattle.std.specs.Prelude.{vec_capacity}
 use Rattle.shared_log.specs.Callers.{Belongs}

@@ -1,3 +1,4 @@
+-- The text stands at the front of what is unread, or does not.
 use Rattle.std.proofs.Common.{sym, ◌∙◌, take, length}
 use Rattle.audit_reader.proofs.Prefixes.{front_of, after_front, other, same}
 use Rattle.audit_reader.proofs.unread.Unread.take.Goals as goal

@@ -1,3 +1,4 @@
+-- A judgement of an open ticket replies a verdict or is held, and nothing else.
 use Rattle.std.proofs.Common.{subst}
 use Rattle.event_words.specs.Valid.{IsValidEvent}
 use Rattle.checker_workers.specs.Ports.{MakesEvent}

@@ -1,3 +1,4 @@
+-- The caller's call makes the port's event, and there is room for its reply.
 use Rattle.std.proofs.Common.{◌≡◌, ◌≤◌, sym, subst}
 use Rattle.event_words.specs.Events.{caller_of}
 use Rattle.event_words.specs.Word.{word_of}

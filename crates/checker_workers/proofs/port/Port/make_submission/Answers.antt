@@ -1,3 +1,4 @@
+-- An access is submitted by one event, or by an aim and a second event.
 use Rattle.std.proofs.Common.{sym, ◌∙◌, arith}
 use Rattle.checker_workers.proofs.Submitting.{submits_narrow, submits_wide}
 use Rattle.checker_workers.proofs.port.Port.make_submission.Goals as goal

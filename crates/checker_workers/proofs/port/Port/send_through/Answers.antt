@@ -1,3 +1,4 @@
+-- The port plays what its caller sent through the chain.
 use Rattle.std.proofs.Common.{subst}
 use Rattle.event_words.specs.Sections.{stage_units}
 use Rattle.unit_core.specs.Fabrics.{state_after_word, reply_to_word}

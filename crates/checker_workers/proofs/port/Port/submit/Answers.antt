@@ -1,3 +1,4 @@
+-- The answer is that of the submission's reply, with its ticket.
 use Rattle.std.proofs.Common.{sym, subst}
 use Rattle.event_words.specs.declared.reply.Reply.{Reply}
 use Rattle.checker_workers.specs.Tickets.{MakesSubmission}

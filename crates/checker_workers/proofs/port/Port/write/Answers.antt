@@ -1,3 +1,4 @@
+-- A write replies a value.
 use Rattle.std.proofs.Common.{ap, refl}
 use Rattle.event_words.specs.declared.event.Event.{Event}
 use Rattle.event_words.specs.declared.event.Event.TheVariants as events

@@ -1,3 +1,4 @@
+-- A cursor that goes on awaits valid events only.
 use Rattle.std.proofs.Common.{sym, subst}
 use Rattle.section_cursor.specs.ValidEvents.{HasValidEvents}
 use Rattle.section_cursor.proofs.cursor.Cursor.note.Goals as goal

@@ -1,3 +1,4 @@
+-- The caller's word stands at its place, or another caller's stands there and is taken.
 use Rattle.std.proofs.Common.{◌≡◌, ℕ, ◌-◌, ◌<◌, eqb, [], ◌∷◌, ◌++◌, length, sym, ap, ◌∙◌, subst, arith, length-append}
 use prog.Atomic.{either}
 use Rattle.atomic_table.specs.Table.{Allows}

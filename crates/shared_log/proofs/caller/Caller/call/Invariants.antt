@@ -1,3 +1,4 @@
+-- The caller has seen only other callers' words since the call began, and fewer places are left.
 use Rattle.std.proofs.Common.{◌≡◌, ◌<◌, ◌-◌, []}
 use Rattle.shared_log.specs.Callers.{HasCallerFields, AfterOthers, caller_view}
 use Rattle.shared_log.proofs.caller.Caller.call.Given as goal

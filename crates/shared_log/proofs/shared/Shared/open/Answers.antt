@@ -1,3 +1,4 @@
+-- The empty words are those of a log that nobody wrote.
 use Rattle.std.proofs.Common.{ℕ, List, [], ◌∷◌, sym, ◌∙◌, subst}
 use Rattle.shared_log.specs.SeatViews.{opening_view}
 use Rattle.shared_log.specs.Rule.{IsSharedLog}
