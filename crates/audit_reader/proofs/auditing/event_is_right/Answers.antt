@@ -16,12 +16,12 @@ use Rattle.audit_reader.proofs.auditing.event_is_right.Goals as goal
 pub returns-in_default-clause-answer : goal.returns-in_default-clause-answer
 returns-in_default-clause-answer c = λ script words s k.
     no_caller script words c.args.unread.now c.args.units.now.state c.args.cursors.now c.args.place c.requires.few s k
-    (subst (λ (o : Option ℕ). Finds o c.args.unread.now c.args.place) c.in_default.is (λ x rest p q e. c.caller_in.ensures x rest p q (c.bytes.ensures ∙ e)))
+    (subst (λ (o : Option ℕ). Finds o c.args.unread.now c.args.place) c.in_default.is (λ x rest p q e. c.caller_in.ensures.line x rest p q (c.bytes.ensures ∙ e)))
 
 pub returns-in_default-awaited-clause-answer : goal.returns-in_default-awaited-clause-answer
 returns-in_default-awaited-clause-answer c = λ script words s k.
     none_awaited script words c.args.unread.now c.args.units.now.state c.args.cursors.now c.args.place c.in-Some.caller c.requires.few s k
-    (subst (λ (o : Option ℕ). Finds o c.args.unread.now c.args.place) c.in-Some.is (λ x rest p q e. c.caller_in.ensures x rest p q (c.bytes.ensures ∙ e)))
+    (subst (λ (o : Option ℕ). Finds o c.args.unread.now c.args.place) c.in-Some.is (λ x rest p q e. c.caller_in.ensures.line x rest p q (c.bytes.ensures ∙ e)))
     (subst (λ (o : Option Event). Awaits c.args.cursors.now c.in-Some.caller o) c.in_default-awaited.is c.awaited.ensures)
 
 pub pack-word-requires : goal.pack-word-requires
@@ -40,7 +40,7 @@ set-requires c =
 pub returns-then-not-take-clause-answer : goal.returns-then-not-take-clause-answer
 returns-then-not-take-clause-answer c = λ script words s k.
     other_awaited script words c.args.unread.now c.args.units.now.state c.args.cursors.now c.args.place c.in-Some.caller c.in-Some-awaited.event c.apply-reply.result c.requires.few s k
-    (subst (λ (o : Option ℕ). Finds o c.args.unread.now c.args.place) c.in-Some.is (λ x rest p q e. c.caller_in.ensures x rest p q (c.bytes.ensures ∙ e)))
+    (subst (λ (o : Option ℕ). Finds o c.args.unread.now c.args.place) c.in-Some.is (λ x rest p q e. c.caller_in.ensures.line x rest p q (c.bytes.ensures ∙ e)))
     (subst (λ (o : Option Event). Awaits c.args.cursors.now c.in-Some.caller o) c.in-Some-awaited.is c.awaited.ensures)
     (c.apply-reply.ensures.reply ∙ ap (λ w. reply_to_word c.args.units.now.state c.args.place w) c.pack-word.ensures.word)
     (λ others l.

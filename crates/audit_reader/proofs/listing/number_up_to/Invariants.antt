@@ -1,6 +1,6 @@
 -- The number so far and the bytes that are left begin with the number that all bytes begin with.
 use Rattle.std.proofs.Common.{◌≡◌, ◌≤◌, drop}
-use Rattle.audit_reader.proofs.Leading.{leading}
+use Rattle.audit_reader.specs.Digits.{leading}
 use Rattle.audit_reader.proofs.listing.number_up_to.Given as goal
 
 abbrev pub invariant-loop-i : goal.invariant-loop-i
