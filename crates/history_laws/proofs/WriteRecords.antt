@@ -1,5 +1,6 @@
 -- The records of sections of writes, and of a plan.
-use Rattle.std.proofs.Common.{◌≡◌, ℕ, zero, suc, ◌++◌, ltb, Bool, true, false, not, ◌&&◌, cond, List, [], ◌∷◌, Option, Some, None, map, refl, ap, ◌∙◌, ◌⊎◌, inl, inr}
+use Rattle.std.proofs.Common.{◌≡◌, ℕ, zero, suc, ◌++◌, Bool, true, false, not, ◌&&◌, if◌then◌else◌, List, [], ◌∷◌, Option, Some, None, map, refl, sym, ap, ◌∙◌, ◌⊎◌, inl, inr}
+use Rattle.std.specs.Prelude.{nat_lt}
 use Rattle.std.specs.List.{AllByRecursion}
 use Rattle.event_words.specs.Registers.{index_of}
 use Rattle.event_words.specs.declared.register.Register.TheVariants.{Mdstall}
@@ -10,39 +11,11 @@ use Rattle.event_words.specs.declared.record.SectionEnd.{SectionEnd}
 use Rattle.event_words.specs.declared.record.SectionEnd.TheVariants.{Stopped}
 use Rattle.event_words.specs.declared.section.Command.{Command}
 use Rattle.event_words.specs.declared.section.Command.TheVariants.{Until}
-use Rattle.event_words.specs.Events.{same_event}
-use Rattle.event_words.specs.Records.{OpenSlot, take_event, polls, hits, one_piece, until_piece, nothing_left, after_piece, end_of_commands}
-use Rattle.event_words.proofs.SameEvents.{same_event_is}
+use Rattle.event_words.specs.Records.{OpenSlot, hits, nothing_left, end_of_commands}
+use Rattle.event_words.proofs.ExpectedEvents.{Expected, Ends, Next, end_of, none_some, next_is, repeated, misses, expected, expected_is}
 use Rattle.policy_compiler.specs.declared.image.RegPair.{RegPair}
 use Rattle.policy_compiler.specs.Images.{pair}
 use Rattle.policy_compiler.specs.Commands.{write_command}
-
--- ---- one event
-
-none_some : {A : Type 0} {P : Type 0} (a : A) → None ≡ Some a → P
-none_some a h = absurd (let n : None ≡ Some a = h in cc)
-
--- what is made of the rest of a record
-abbrev Rest : Type 0
-Rest = List LoggedEvent → Option SectionEnd
-
--- a write's piece is its one event
-record StartsWith (e : Event) (go : Rest) (xs : List LoggedEvent) (end : SectionEnd) : Type 0 where
-  pub first : LoggedEvent
-  pub rest : List LoggedEvent
-  pub is : xs ≡ first ∷ rest
-  pub event : same_event e first.event ≡ true
-  pub goes : go rest ≡ Some end
-
-one_first : (e : Event) (go : List (Option OpenSlot) → Rest) (slots : List (Option OpenSlot)) (xs : List LoggedEvent) (end : SectionEnd)
-    → after_piece go (one_piece slots (take_event e xs)) ≡ Some end → StartsWith e (go slots) xs end
-one_first e go slots [] end h = none_some end h
-one_first e go slots (x ∷ xs) end h = by (same_event e x.event) refl h
-  where
-    by : (b : Bool) → same_event e x.event ≡ b → after_piece go (one_piece slots (cond b (Some (x, xs)) None)) ≡ Some end
-        → StartsWith e (go slots) (x ∷ xs) end
-    by true t h = record { first = x; rest = xs; is = refl; event = t; goes = h }
-    by false t h = none_some end h
 
 -- ---- a section of writes
 
@@ -52,38 +25,41 @@ write_by c w = events.RegWrite 0 c w.index w.value
 abbrev pub event_of : LoggedEvent → Event
 event_of x = x.event
 
-pub writes_record : (c : ℕ) (ws : List RegPair) (slots : List (Option OpenSlot)) (xs : List LoggedEvent) (end : SectionEnd)
-    → end_of_commands c (map write_command ws) slots xs ≡ Some end → map event_of xs ≡ map (write_by c) ws
-writes_record c [] slots [] end h = refl
-writes_record c [] slots (x ∷ xs) end h = none_some end h
-writes_record c (w ∷ ws) slots xs end h =
-    let s = one_first (write_by c w) (end_of_commands c (map write_command ws)) slots xs end h in
-    let head = same_event_is (events.RegWrite 0 c w.index w.value) s.first.event s.event in
-    let tail = writes_record c ws slots s.rest end s.goes in
-    ap (map event_of) s.is ∙ (ap (λ e. e ∷ map event_of s.rest) head ∙ ap (λ es. write_by c w ∷ es) tail)
-
--- the events of writes with which a section begins, and the record of the rest
-record StartsWithAll (c : ℕ) (ws : List RegPair) (go : Rest) (xs : List LoggedEvent) (end : SectionEnd) : Type 0 where
+-- the events of writes with which a section begins, and what is left behind them
+record StartsWithAll (c : ℕ) (ws : List RegPair) (go : Expected) (xs : List LoggedEvent) (end : SectionEnd) : Type 0 where
   pub first : List LoggedEvent
   pub rest : List LoggedEvent
   pub is : xs ≡ first ++ rest
   pub events : map event_of first ≡ map (write_by c) ws
-  pub goes : go rest ≡ Some end
+  pub goes : end_of go rest ≡ Some end
 
 writes_first : (c : ℕ) (ws : List RegPair) (cs : List Command) (slots : List (Option OpenSlot)) (xs : List LoggedEvent) (end : SectionEnd)
-    → end_of_commands c (map write_command ws ++ cs) slots xs ≡ Some end → StartsWithAll c ws (end_of_commands c cs slots) xs end
+    → end_of (expected c (map write_command ws ++ cs) slots) xs ≡ Some end → StartsWithAll c ws (expected c cs slots) xs end
 writes_first c [] cs slots xs end h = record { first = []; rest = xs; is = refl; events = refl; goes = h }
-writes_first c (w ∷ ws) cs slots xs end h =
-    let s = one_first (write_by c w) (end_of_commands c (map write_command ws ++ cs)) slots xs end h in
-    let head = same_event_is (events.RegWrite 0 c w.index w.value) s.first.event s.event in
-    let tail = writes_first c ws cs slots s.rest end s.goes in
+writes_first c (w ∷ ws) cs slots [] end h = none_some end h
+writes_first c (w ∷ ws) cs slots (x ∷ xs) end h =
+    let head = next_is (write_by c w) (λ y. expected c (map write_command ws ++ cs) slots) x xs end h in
+    let tail = writes_first c ws cs slots xs end head.1 in
     record {
-      first = s.first ∷ tail.first;
+      first = x ∷ tail.first;
       rest = tail.rest;
-      is = s.is ∙ ap (λ ys. s.first ∷ ys) tail.is;
-      events = ap (λ e. e ∷ map event_of tail.first) head ∙ ap (λ es. write_by c w ∷ es) tail.events;
+      is = ap (λ ys. x ∷ ys) tail.is;
+      events = ap (λ e. e ∷ map event_of tail.first) head.0 ∙ ap (λ es. write_by c w ∷ es) tail.events;
       goes = tail.goes;
     }
+
+writes_made : (c : ℕ) (ws : List RegPair) (slots : List (Option OpenSlot)) (xs : List LoggedEvent) (end : SectionEnd)
+    → end_of (expected c (map write_command ws) slots) xs ≡ Some end → map event_of xs ≡ map (write_by c) ws
+writes_made c [] slots [] end h = refl
+writes_made c [] slots (x ∷ xs) end h = none_some end h
+writes_made c (w ∷ ws) slots [] end h = none_some end h
+writes_made c (w ∷ ws) slots (x ∷ xs) end h =
+    let head = next_is (write_by c w) (λ y. expected c (map write_command ws) slots) x xs end h in
+    ap (λ e. e ∷ map event_of xs) head.0 ∙ ap (λ es. write_by c w ∷ es) (writes_made c ws slots xs end head.1)
+
+pub writes_record : (c : ℕ) (ws : List RegPair) (slots : List (Option OpenSlot)) (xs : List LoggedEvent) (end : SectionEnd)
+    → end_of_commands c (map write_command ws) slots xs ≡ Some end → map event_of xs ≡ map (write_by c) ws
+writes_record c ws slots xs end h = writes_made c ws slots xs end (sym (expected_is c (map write_command ws) slots xs) ∙ h)
 
 -- ---- the reads of MDSTALL
 
@@ -94,10 +70,6 @@ drain_read = events.RegRead 0 1 (index_of Mdstall)
 abbrev pub IsDrainRead : LoggedEvent → Type 0
 IsDrainRead x = x.event ≡ drain_read
 
--- so many of them at most, up to one that hits
-abbrev drains : ℕ → List LoggedEvent → Option (Bool × List LoggedEvent)
-drains n xs = polls n drain_read 1 0 xs
-
 abbrev pub Misses : LoggedEvent → Type 0
 Misses x = hits 1 0 x.reply ≡ false
 
@@ -106,53 +78,53 @@ abbrev pub HasHit : List LoggedEvent → Type 0
 HasHit [] = ⊥
 HasHit (x ∷ xs) = (hits 1 0 x.reply ≡ true) ⊎ HasHit xs
 
--- nothing is left where all of them miss, and the rest goes on where one hits
-abbrev EndsPolled : Rest → List LoggedEvent → List LoggedEvent → SectionEnd → Type 0
-EndsPolled go reads rest end = (AllByRecursion Misses reads × (rest ≡ [])) ⊎ (HasHit reads × (go rest ≡ Some end))
+-- what is left once so many reads at most were made, up to one that hits
+abbrev drained : Expected → Bool → Expected
+drained go hit = if hit then go else Ends Stopped
 
-record IsPolled (go : Rest) (xs : List LoggedEvent) (end : SectionEnd) : Type 0 where
+abbrev drains : ℕ → Expected → Expected
+drains n go = repeated n drain_read (misses 1 0) (λ r. drained go (hits 1 0 r))
+
+-- nothing is left where all of them miss, and the rest goes on where one hits
+abbrev EndsPolled : Expected → List LoggedEvent → List LoggedEvent → SectionEnd → Type 0
+EndsPolled go reads rest end = (AllByRecursion Misses reads × (rest ≡ [])) ⊎ (HasHit reads × (end_of go rest ≡ Some end))
+
+record IsPolled (go : Expected) (xs : List LoggedEvent) (end : SectionEnd) : Type 0 where
   pub reads : List LoggedEvent
   pub rest : List LoggedEvent
   pub is : xs ≡ reads ++ rest
   pub events : AllByRecursion IsDrainRead reads
   pub ends : EndsPolled go reads rest end
 
-polled : (n : ℕ) (go : List (Option OpenSlot) → Rest) (slots : List (Option OpenSlot)) (xs : List LoggedEvent) (end : SectionEnd)
-    → after_piece go (until_piece slots (drains n xs)) ≡ Some end → IsPolled (go slots) xs end
-polled zero go slots xs end h = none_some end h
-polled (suc n) go slots [] end h = none_some end h
-polled (suc n) go slots (x ∷ xs) end h = by (same_event drain_read x.event) (hits 1 0 x.reply) (ltb 0 n) (λ g. polled n go slots xs end g) refl refl h
+polled : (n : ℕ) (go : Expected) (xs : List LoggedEvent) (end : SectionEnd) → end_of (drains n go) xs ≡ Some end → IsPolled go xs end
+polled zero go xs end h = none_some end h
+polled (suc n) go [] end h = none_some end h
+polled (suc n) go (x ∷ xs) end h =
+    let p = next_is drain_read (λ y. if misses 1 0 y.reply && nat_lt 0 n then drains n go else drained go (hits 1 0 y.reply)) x xs end h in
+    by (hits 1 0 x.reply) (nat_lt 0 n) refl p.0 (λ g. polled n go xs end g) p.1
   where
-    after_last : (hit : Bool) → hits 1 0 x.reply ≡ hit → x.event ≡ drain_read
-        → after_piece go (until_piece slots (Some (hit, xs))) ≡ Some end → IsPolled (go slots) (x ∷ xs) end
-    after_last true t e h = record { reads = x ∷ []; rest = xs; is = refl; events = (e, tt); ends = inr (inl t, h) }
-    after_last false t e h = nothing xs refl h
-      where
-        nothing : (ys : List LoggedEvent) → xs ≡ ys → nothing_left Stopped ys ≡ Some end → IsPolled (go slots) (x ∷ xs) end
-        nothing [] q h = record { reads = x ∷ []; rest = []; is = ap (λ zs. x ∷ zs) q; events = (e, tt); ends = inl ((t, tt), refl) }
-        nothing (y ∷ ys) q h = none_some end h
+    nothing : (ys : List LoggedEvent) → hits 1 0 x.reply ≡ false → x.event ≡ drain_read → xs ≡ ys → nothing_left Stopped ys ≡ Some end
+        → IsPolled go (x ∷ xs) end
+    nothing [] miss e q h = record { reads = x ∷ []; rest = []; is = ap (λ zs. x ∷ zs) q; events = (e, tt); ends = inl ((miss, tt), refl) }
+    nothing (y ∷ ys) miss e q h = none_some end h
 
-    by : (s hit more : Bool) → (after_piece go (until_piece slots (drains n xs)) ≡ Some end → IsPolled (go slots) xs end)
-        → same_event drain_read x.event ≡ s → hits 1 0 x.reply ≡ hit
-        → after_piece go (until_piece slots (cond (not s) None (cond (not hit && more) (drains n xs) (Some (hit, xs))))) ≡ Some end
-        → IsPolled (go slots) (x ∷ xs) end
-    by false hit more again p q h = none_some end h
-    by true true more again p q h = after_last true q (same_event_is drain_read x.event p) h
-    by true false false again p q h = after_last false q (same_event_is drain_read x.event p) h
-    by true false true again p q h =
-        let e = same_event_is drain_read x.event p in
+    longer : (reads rest : List LoggedEvent) → hits 1 0 x.reply ≡ false → EndsPolled go reads rest end → EndsPolled go (x ∷ reads) rest end
+    longer reads rest miss (inl m) = inl ((miss, m.0), m.1)
+    longer reads rest miss (inr m) = inr (inr m.0, m.1)
+
+    by : (hit more : Bool) → hits 1 0 x.reply ≡ hit → x.event ≡ drain_read → (end_of (drains n go) xs ≡ Some end → IsPolled go xs end)
+        → end_of (if not hit && more then drains n go else drained go hit) xs ≡ Some end → IsPolled go (x ∷ xs) end
+    by true more q e again h = record { reads = x ∷ []; rest = xs; is = refl; events = (e, tt); ends = inr (inl q, h) }
+    by false false q e again h = nothing xs q e refl h
+    by false true q e again h =
         let r = again h in
         record {
           reads = x ∷ r.reads;
           rest = r.rest;
           is = ap (λ zs. x ∷ zs) r.is;
           events = (e, r.events);
-          ends = longer r.reads r.rest r.ends;
+          ends = longer r.reads r.rest q r.ends;
         }
-      where
-        longer : (reads rest : List LoggedEvent) → EndsPolled (go slots) reads rest end → EndsPolled (go slots) (x ∷ reads) rest end
-        longer reads rest (inl m) = inl ((q, m.0), m.1)
-        longer reads rest (inr m) = inr (inr m.0, m.1)
 
 -- ---- a plan
 
@@ -189,8 +161,10 @@ pub record IsPlanRecord (stalls tables : List RegPair) (xs : List LoggedEvent) :
 pub plan_record : (stalls tables : List RegPair) (n : ℕ) (slots : List (Option OpenSlot)) (xs : List LoggedEvent) (end : SectionEnd)
     → end_of_commands 1 (plan_of stalls tables n) slots xs ≡ Some end → IsPlanRecord stalls tables xs
 plan_record stalls tables n slots xs end h =
-    let s = writes_first 1 stalls (until_drained n ∷ map write_command (tables ++ release_write ∷ [])) slots xs end h in
-    let p = polled n (end_of_commands 1 (map write_command (tables ++ release_write ∷ []))) slots s.rest end s.goes in
+    let all = plan_of stalls tables n in
+    let writes = map write_command (tables ++ release_write ∷ []) in
+    let s = writes_first 1 stalls (until_drained n ∷ writes) slots xs end (sym (expected_is 1 all slots xs) ∙ h) in
+    let p = polled n (expected 1 writes slots) s.rest end s.goes in
     record {
       first = s.first;
       reads = p.reads;
@@ -202,7 +176,7 @@ plan_record stalls tables n slots xs end h =
     }
   where
     ending : (reads rest : List LoggedEvent)
-        → EndsPolled (end_of_commands 1 (map write_command (tables ++ release_write ∷ [])) slots) reads rest end
+        → EndsPolled (expected 1 (map write_command (tables ++ release_write ∷ [])) slots) reads rest end
         → PlanEnds tables reads rest
     ending reads rest (inl m) = inl m
-    ending reads rest (inr m) = inr (m.0, writes_record 1 (tables ++ release_write ∷ []) slots rest end m.1)
+    ending reads rest (inr m) = inr (m.0, writes_made 1 (tables ++ release_write ∷ []) slots rest end m.1)
